@@ -1,0 +1,141 @@
+-- `findAt` and `same` at a place of a text, by the byte there.
+-- Assumes nothing.
+use Prim.Native.Nat.{ℕ, suc, _+_, _-_, _≤_, _<_}
+use native.Mathlib.Omega.{arith}
+use native.Mathlib.Numerals.{add-one}
+use mathlib.Core.List.{List, [], _∷_}
+use mathlib.Core.Bool.{Bool, true, false}
+use mathlib.Core.Path.{_≡_, refl, sym}
+use borrow.Author.Needs.{needs}
+use lib.ListN.{length, getD, take, drop, drop-of-length-le, length-drop}
+use lib.Seq.{drop-cons}
+use lib.Dec.{eqb}
+use borrow.Author.Tests.{eq-eqb, ne-eqb, le-leb, lt-leb}
+use Rattle.text.specs.Ranges.{pick}
+use Rattle.text.specs.Find.{findFrom, findAt, lineEnd, same, begins, stripOf}
+use Rattle.text.specs.declared.find.Place.{Place}
+use Rattle.text.specs.declared.find.Part.{Part}
+use Rattle.text.specs.declared.find.Place.the-variants.{Here, Nowhere}
+use Rattle.text.proofs.Parts.{take-count}
+use Rattle.text.proofs.Flat.{by-test, pick-same}
+
+-- Rules of the loop of `find_byte`. `search finds` finds their premises by itself: what the loop keeps, and the tests on the way.
+module _ (b : ℕ) (t : List ℕ) (from at : ℕ) (i : findAt b t from ≡ findAt b t at) where
+  pub find-end : length t ≤ at → Nowhere ≡ findAt b t from
+  unfolding findAt findFrom
+  find-end h = rw (i, drop-of-length-le t h)
+
+  pub find-hit : at < length t → getD t at 0 ≡ b → Here at ≡ findAt b t from
+  unfolding findAt findFrom
+  find-hit h e = rw (i, drop-cons t at 0 h, eq-eqb _ _ e)
+
+  pub find-miss : at < length t → (getD t at 0 ≡ b → ⊥) → findAt b t from ≡ findAt b t (at + 1)
+  unfolding findAt findFrom
+  find-miss h e = rw (i, drop-cons t at 0 h, ne-eqb _ _ e, add-one)
+
+pub ruleset finds = (find-end, find-hit, find-miss, needs)
+
+-- what is left to compare from a place on
+unfoldable pub sameAt : List ℕ → List ℕ → ℕ → Bool
+sameAt t k at = same (drop at t) (drop at k)
+
+pub same-start : (t k : List ℕ) → same t k ≡ sameAt t k 0
+unfolding sameAt
+same-start t k = refl
+
+pub same-long : (t k : List ℕ) → (length t ≡ length k → ⊥) → same t k ≡ false
+unfolding same
+same-long [] [] h = absurd (h refl)
+same-long [] (y ∷ s) h = refl
+same-long (x ∷ r) [] h = refl
+same-long (x ∷ r) (y ∷ s) h = rw (same-long r s (omega arith)) (pick-same (eqb x y) false)
+
+-- Rules of the loop of `is`
+pub same-lengths : (t k : List ℕ) → (length t ≡ length k → ⊥) → false ≡ same t k
+same-lengths t k h = sym (same-long t k h)
+
+module _ (t k : List ℕ) (at : ℕ) (i : same t k ≡ sameAt t k at) (l : length t ≡ length k) where
+  pub same-end : length t ≤ at → true ≡ same t k
+  unfolding sameAt same
+  same-end h = let h₂ : length k ≤ at = omega arith in rw (i, drop-of-length-le t h, drop-of-length-le k h₂)
+
+  pub same-off : at < length t → (getD t at 0 ≡ getD k at 0 → ⊥) → false ≡ same t k
+  unfolding sameAt same
+  same-off h e = let h₂ : at < length k = omega arith in rw (i, drop-cons t at 0 h, drop-cons k at 0 h₂, ne-eqb _ _ e)
+
+  pub same-on : at < length t → getD t at 0 ≡ getD k at 0 → same t k ≡ sameAt t k (at + 1)
+  unfolding sameAt same
+  same-on h e = let h₂ : at < length k = omega arith in rw (i, drop-cons t at 0 h, drop-cons k at 0 h₂, eq-eqb _ _ e, add-one)
+
+pub ruleset sames = (same-start, same-lengths, same-end, same-off, same-on, needs)
+
+-- Rules of `starts_with`: a text begins with a key if its part of the key's length is the key
+begins-short : (t k : List ℕ) → length t < length k → begins t k ≡ false
+unfolding begins
+begins-short t [] h = absurd (omega arith)
+begins-short [] (y ∷ s) h = refl
+begins-short (x ∷ r) (y ∷ s) h = rw (begins-short r s (omega arith)) (pick-same (eqb x y) false)
+
+begins-part : (t k : List ℕ) → length k ≤ length t → begins t k ≡ same (take (length k) t) k
+unfolding begins same
+begins-part [] [] h = refl
+begins-part (x ∷ r) [] h = refl
+begins-part [] (y ∷ s) h = absurd (omega arith)
+begins-part (x ∷ r) (y ∷ s) h = rw (begins-part r s (omega arith))
+
+module _ (t k : List ℕ) where
+  pub starts-short : length t < length k → false ≡ begins t k
+  starts-short h = sym (begins-short t k h)
+
+  pub starts-part : {r : Bool} → length k ≤ length t → r ≡ same (take (length k) t) k → r ≡ begins t k
+  starts-part h e = rw (begins-part t k h) e
+
+pub ruleset starts = (take-count, starts-short, starts-part, needs)
+
+-- what is found lies where it was looked for
+pub inside : (b p : ℕ) (l : List ℕ) {i : ℕ} → findFrom b p l ≡ Here i → (p ≤ i) × (i < p + length l)
+unfolding findFrom
+inside b p [] h = let z : _≡_ {A = ℕ} 0 1 = cc in absurd (omega arith)
+inside b p (x ∷ r) {i} h =
+    by-test (eqb x b)
+    (λ e. let q : Here p ≡ Here i = rw e at h in let q₂ : p ≡ i = cc in omega arith)
+    (λ e. let q = inside b (suc p) r {i = i} (rw e at h) in omega arith)
+
+pub found-within : (b : ℕ) (t : List ℕ) (at : ℕ) {i : ℕ} → findAt b t at ≡ Here i → (at ≤ i) × (i < length t)
+unfolding findAt
+found-within b t at h = let q = rw length-drop at (inside b at (drop at t) h) in omega arith
+
+-- Rules of `line_end`
+module _ (t : List ℕ) (at : ℕ) {f : Place} (e : f ≡ findAt 0x0A t at) where
+  pub line-here : {i : ℕ} → f ≡ Here i → i ≡ lineEnd t at
+  unfolding lineEnd
+  line-here q = rw (← e, q)
+
+  pub line-none : f ≡ Nowhere → length t ≡ lineEnd t at
+  unfolding lineEnd
+  line-none q = rw (← e, q)
+
+pub ruleset ends = (line-here, line-none, needs)
+
+-- Rules of `strip_quotes`
+abbrev whole : List ℕ → Part
+whole t = record { from = 0; to = length t }
+
+module _ (t : List ℕ) where
+  pub strip-short : length t < 2 → whole t ≡ stripOf t
+  unfolding stripOf
+  strip-short h = rw (lt-leb _ _ h)
+
+  pub strip-open : 2 ≤ length t → (getD t 0 0 ≡ 0x22 → ⊥) → whole t ≡ stripOf t
+  unfolding stripOf
+  strip-open h a = rw (le-leb _ _ h, ne-eqb _ _ a)
+
+  pub strip-close : 2 ≤ length t → getD t 0 0 ≡ 0x22 → (getD t (length t - 1) 0 ≡ 0x22 → ⊥) → whole t ≡ stripOf t
+  unfolding stripOf
+  strip-close h a b = rw (le-leb _ _ h, eq-eqb _ _ a, ne-eqb _ _ b)
+
+  pub strip-both : 2 ≤ length t → getD t 0 0 ≡ 0x22 → getD t (length t - 1) 0 ≡ 0x22 → record { from = 1; to = length t - 1 } ≡ stripOf t
+  unfolding stripOf
+  strip-both h a b = rw (le-leb _ _ h, eq-eqb _ _ a, eq-eqb _ _ b)
+
+pub ruleset strips = (strip-short, strip-open, strip-close, strip-both, needs)

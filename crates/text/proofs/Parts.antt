@@ -1,0 +1,16 @@
+-- The lists that parts of a slice hold.
+-- Assumes nothing.
+use Prim.Native.Nat.{ℕ, _-_, _≤_}
+use native.Mathlib.Omega.{arith}
+use mathlib.Core.List.{List}
+use mathlib.Core.Path.{_≡_}
+use lib.ListN.{length, take, drop, length-take, length-drop}
+use lib.Seq.{take-all}
+
+-- `&s[k..]`
+pub part-rest : (k : ℕ) (l : List ℕ) → take (length l - k) (drop k l) ≡ drop k l
+part-rest k l = take-all (length l - k) (drop k l) (simp length-drop (omega arith))
+
+-- `&s[..k]`
+pub take-count : (k : ℕ) (l : List ℕ) → k ≤ length l → k ≡ length (take k l)
+take-count k l h = simp length-take (omega arith)

@@ -1,0 +1,6 @@
+use Rattle.text.proofs.Trims.{marks}
+use Rattle.text.proofs.words.mark.Statement.{statement}
+use Rattle.text.proofs.words.mark.Tie as tie
+
+pub mark-spec : {M : Type 1} → statement M
+mark-spec = tie.close (tie.spec (λ c. search marks) (λ c. search marks) (λ c. search marks))

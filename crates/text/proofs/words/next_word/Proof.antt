@@ -1,0 +1,6 @@
+use Rattle.text.proofs.Texts.{words}
+use Rattle.text.proofs.words.next_word.Statement.{statement}
+use Rattle.text.proofs.words.next_word.Tie as tie
+
+pub next-word-spec : {M : Type 1} → statement M
+next-word-spec = tie.close (tie.spec (λ c κs. search words) (λ c κs. search words) (λ c. search words) (λ c. search words))

@@ -1,0 +1,6 @@
+// The text layer of the descriptor reader: characters, blanks, trimming, words, lines, numbers, quotes and sectors.
+pub mod blank;
+pub mod find;
+pub mod number;
+pub mod utf8;
+pub mod words;
