@@ -1,16 +1,14 @@
--- Code that compares a number with thresholds and keys, as a `match` with ranges does, comes to a place where the number lies in lo to hi
--- and is none of some keys. There a table of ranges has one value, which is computed from lo, hi and the keys alone.
--- Assumes nothing.
+-- A `match` with ranges comes to a place where the number lies in lo to hi, each row's range holding all of it or nothing of it.
+-- There a table of ranges has one value, which is computed from lo and hi alone.
 use Prim.Native.Nat.{ℕ, _≤_, _<_}
 use native.Mathlib.Omega.{arith}
 use mathlib.Core.List.{List, [], _∷_}
 use mathlib.Core.Logic.{inl, inr}
 use mathlib.Core.Bool.{Bool, true, false}
 use mathlib.Core.Path.{_≡_, refl, sym, subst, _∙_}
-use lib.Dec.{T, leb, ltb, eqb, eqb→eq, leb→le}
-use borrow.Author.Tests.{le-leb, lt-leb, leb-true, leb-false, ltb-true}
-use types.Run.{OneOf, hit}
-use mir.Val.{hasKey}
+use lib.Dec.{T, leb, ltb, leb→le}
+use borrow.Author.Tests.{le-leb, lt-leb, ltb-true}
+use types.Run.{OneOf}
 use Rattle.text.specs.Ranges.{Row, row, look, pick, within}
 
 -- the two cases of a test, each with what it says
@@ -18,15 +16,19 @@ pub by-test : {C : Type 0} (b : Bool) → (b ≡ true → C) → (b ≡ false �
 by-test true f g = f refl
 by-test false f g = g refl
 
+pub pick-same : {A : Type 0} (b : Bool) (x : A) → pick b x x ≡ x
+pick-same true x = refl
+pick-same false x = refl
+
+pub and-T : (a b : Bool) → T (pick a b false) → T a × T b
+and-T true b t = (tt, t)
+and-T false b t = absurd t
+
 pub within-in : (l h x : ℕ) → l ≤ x → x ≤ h → within l h x ≡ true
 within-in l h x p q = rw (le-leb l x p, le-leb x h q)
 
 pub within-below : (l h x : ℕ) → x < l → within l h x ≡ false
 within-below l h x p = rw (lt-leb l x p)
-
-pub pick-same : {A : Type 0} (b : Bool) (x : A) → pick b x x ≡ x
-pick-same true x = refl
-pick-same false x = refl
 
 pub within-above : (l h x : ℕ) → h < x → within l h x ≡ false
 within-above l h x q = rw (lt-leb x h q) (pick-same (leb l x) false)
@@ -35,48 +37,38 @@ within-above l h x q = rw (lt-leb x h q) (pick-same (leb l x) false)
 abbrev pub covers : ℕ → ℕ → ℕ → ℕ → Bool
 covers lo hi l h = pick (leb l lo) (leb hi h) false
 
--- or it holds nothing of it but a key
-abbrev pub misses : ℕ → ℕ → List ℕ → ℕ → ℕ → Bool
-misses lo hi ks l h = pick (ltb h lo) true (pick (ltb hi l) true (pick (eqb l h) (hasKey ks l) false))
+-- or it holds nothing of it
+abbrev pub misses : ℕ → ℕ → ℕ → ℕ → Bool
+misses lo hi l h = pick (ltb h lo) true (ltb hi l)
 
 -- each row does one or the other
-abbrev pub flat : {A : Type 0} → ℕ → ℕ → List ℕ → List (Row A) → Bool
-flat lo hi ks [] = true
-flat lo hi ks (row l h v ∷ rs) = pick (pick (covers lo hi l h) true (misses lo hi ks l h)) (flat lo hi ks rs) false
+abbrev pub flat : {A : Type 0} → ℕ → ℕ → List (Row A) → Bool
+flat lo hi [] = true
+flat lo hi (row l h v ∷ rs) = pick (pick (covers lo hi l h) true (misses lo hi l h)) (flat lo hi rs) false
 
 -- the value of the first row that holds all of lo to hi
 abbrev pub lookIn : {A : Type 0} → A → List (Row A) → ℕ → ℕ → A
 lookIn d [] lo hi = d
 lookIn d (row l h v ∷ rs) lo hi = pick (covers lo hi l h) v (lookIn d rs lo hi)
 
-and-T : (a b : Bool) → T (pick a b false) → T a × T b
-and-T true b t = (tt, t)
-and-T false b t = absurd t
-
-module _ (lo hi : ℕ) (ks : List ℕ) (x : ℕ) (p : lo ≤ x) (q : x ≤ hi) (n : OneOf ks x → ⊥) where
-  missed : (l h : ℕ) → T (misses lo hi ks l h) → within l h x ≡ false
+module _ (lo hi : ℕ) (x : ℕ) (p : lo ≤ x) (q : x ≤ hi) where
+  missed : (l h : ℕ) → T (misses lo hi l h) → within l h x ≡ false
   missed l h t =
       by-test (ltb h lo) (λ e. within-above l h x (omega (arith, ltb-true h lo e)))
       (λ e. by-test (ltb hi l) (λ e₂. within-below l h x (omega (arith, ltb-true hi l e₂)))
-      (λ e₂. key (and-T (eqb l h) (hasKey ks l) (rw (e, e₂) at t))))
-    where
-      key : T (eqb l h) × T (hasKey ks l) → within l h x ≡ false
-      key u =
-          let e : l ≡ h = eqb→eq l h (u .0) in
-          let ne : x ≡ l → ⊥ = λ e₂. n (hit ks x (subst (λ (k : ℕ). T (hasKey ks k)) (sym e₂) (u .1))) in
-          by-test (leb x l) (λ e₃. within-below l h x (omega (arith, leb-true x l e₃))) (λ e₃. within-above l h x (omega (arith, leb-false x l e₃)))
+      (λ e₂. absurd (rw (e, e₂) at t)))
 
-  held : (l h : ℕ) → T (pick (covers lo hi l h) true (misses lo hi ks l h)) → within l h x ≡ covers lo hi l h
+  held : (l h : ℕ) → T (pick (covers lo hi l h) true (misses lo hi l h)) → within l h x ≡ covers lo hi l h
   held l h t =
       by-test (covers lo hi l h)
       (λ e. let u = and-T (leb l lo) (leb hi h) (subst T (sym e) tt) in within-in l h x (omega (arith, leb→le l lo (u .0))) (omega (arith, leb→le hi h (u .1))) ∙ sym e)
       (λ e. missed l h (rw e at t) ∙ sym e)
 
-pub look-flat : {A : Type 0} (d : A) (rs : List (Row A)) (lo hi : ℕ) (ks : List ℕ) (x : ℕ) → T (flat lo hi ks rs) → lo ≤ x → x ≤ hi → (OneOf ks x → ⊥) → look d rs x ≡ lookIn d rs lo hi
-look-flat d [] lo hi ks x t p q n = refl
-look-flat d (row l h v ∷ rs) lo hi ks x t p q n =
-    let u = and-T (pick (covers lo hi l h) true (misses lo hi ks l h)) (flat lo hi ks rs) t in
-    rw (held lo hi ks x p q n l h (u .0), look-flat d rs lo hi ks x (u .1) p q n)
+pub look-flat : {A : Type 0} (d : A) (rs : List (Row A)) (lo hi x : ℕ) → T (flat lo hi rs) → lo ≤ x → x ≤ hi → look d rs x ≡ lookIn d rs lo hi
+look-flat d [] lo hi x t p q = refl
+look-flat d (row l h v ∷ rs) lo hi x t p q =
+    let u = and-T (pick (covers lo hi l h) true (misses lo hi l h)) (flat lo hi rs) t in
+    rw (held lo hi x p q l h (u .0), look-flat d rs lo hi x (u .1) p q)
 
 -- what holds at each of some keys holds of a number that is one of them
 abbrev pub Each : (ℕ → Type 0) → List ℕ → Type 0

@@ -5,3 +5,4 @@ pub mod Text
 pub mod Find
 pub mod Lines
 pub mod Number
+pub mod Sector

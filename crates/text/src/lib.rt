@@ -2,5 +2,6 @@
 pub mod blank;
 pub mod find;
 pub mod number;
+pub mod sector;
 pub mod utf8;
 pub mod words;

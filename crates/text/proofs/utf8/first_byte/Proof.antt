@@ -3,7 +3,6 @@
 use Prim.Native.Nat.{ℕ, _≤_}
 use native.Mathlib.Omega.{arith}
 use mathlib.Core.Path.{_≡_, sym, ap}
-use mathlib.Core.List.{[]}
 use lib.Dec.{T}
 use Rattle.text.specs.Utf8.{leadOf, leads}
 use Rattle.text.specs.declared.utf8.Lead.the-variants.{Never}
@@ -11,9 +10,9 @@ use Rattle.text.proofs.Flat.{flat, lookIn, look-flat}
 use Rattle.text.proofs.utf8.first_byte.Statement.{statement}
 use Rattle.text.proofs.utf8.first_byte.Tie as tie
 
-at : (lo hi b : ℕ) → T (flat lo hi [] leads) → lo ≤ b → b ≤ hi → lookIn Never leads lo hi ≡ leadOf b
+at : (lo hi b : ℕ) → T (flat lo hi leads) → lo ≤ b → b ≤ hi → lookIn Never leads lo hi ≡ leadOf b
 unfolding leadOf
-at lo hi b t p q = sym (look-flat Never leads lo hi [] b t p q (λ x. x))
+at lo hi b t p q = sym (look-flat Never leads lo hi b t p q)
 
 returns : tie.Need-returns
 unfolding leadOf
