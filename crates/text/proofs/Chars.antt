@@ -7,6 +7,7 @@ use native.Mathlib.Nat.{mod-lt}
 use mathlib.Core.List.{List}
 use mathlib.Core.Path.{_≡_, refl, sym, subst, _∙_}
 use lib.ListN.{length, getD, drop, drop-of-length-le}
+use lib.Dec.{T}
 use lib.Seq.{drop-cons}
 use mir.Syntax.{w32}
 use mir.Val.{Fits}
@@ -17,7 +18,7 @@ use Rattle.text.specs.declared.utf8.Lead.{Lead}
 use Rattle.text.specs.declared.utf8.Lead.the-variants.{Row as Lead·Row, Never}
 use Rattle.text.specs.declared.utf8.Char.{Char}
 use Rattle.text.specs.declared.utf8.Char.the-variants.{Scalar, Bad, End}
-use Rattle.text.proofs.Flat.{within-in, within-below, within-above, Every, look-all}
+use Rattle.text.proofs.Flat.{within-in, within-below, within-above, flat, lookIn, look-flat, Every, look-all}
 
 -- ---- the code point fits
 cap-fits : (n : ℕ) → cap n ≤ 2097152
@@ -49,6 +50,11 @@ sized-all = omega arith
 sized-lead : (b : ℕ) → Sized (leadOf b)
 unfolding leadOf
 sized-lead b = look-all Sized Never leads b tt sized-all
+
+-- the row of a first byte that lies in lo to hi, where each row holds all of it or nothing
+pub lead-in : (lo hi b : ℕ) → T (flat lo hi leads) → lo ≤ b → b ≤ hi → leadOf b ≡ lookIn Never leads lo hi
+unfolding leadOf
+lead-in lo hi b t p q = look-flat Never leads lo hi b t p q
 
 -- Rules of `next_char`
 module _ (b : ℕ) {n lo hi span : ℕ} {f : Lead} (e : f ≡ leadOf b) (q : f ≡ Lead·Row n lo hi span) where

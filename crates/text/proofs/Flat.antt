@@ -7,7 +7,7 @@ use mathlib.Core.Logic.{inl, inr}
 use mathlib.Core.Bool.{Bool, true, false}
 use mathlib.Core.Path.{_≡_, refl, sym, subst, _∙_}
 use lib.Dec.{T, leb, ltb, leb→le}
-use borrow.Author.Tests.{le-leb, lt-leb, ltb-true}
+use borrow.Author.Tests.{le-leb, lt-leb, leb-true, leb-false, ltb-true}
 use types.Run.{OneOf}
 use Rattle.text.specs.Ranges.{Row, row, look, pick, within}
 
@@ -93,3 +93,17 @@ pick-all P false v w p q = q
 pub look-all : {A : Type 0} (P : A → Type 0) (d : A) (rs : List (Row A)) (x : ℕ) → P d → Every P rs → P (look d rs x)
 look-all P d [] x p a = p
 look-all P d (row l h v ∷ rs) x p a = pick-all P (within l h x) v (look d rs x) (a .0) (look-all P d rs x p (a .1))
+
+-- what holds of a row's value wherever the row's range holds a number, and of the value where there is no row, holds of the value there
+abbrev pub Rows : {A : Type 0} → (A → Type 0) → ℕ → List (Row A) → Type 0
+Rows P x [] = Unit {0}
+Rows P x (row l h v ∷ rs) = (l ≤ x → x ≤ h → P v) × Rows P x rs
+
+pub look-each : {A : Type 0} (P : A → Type 0) (d : A) (rs : List (Row A)) (x : ℕ) → P d → Rows P x rs → P (look d rs x)
+look-each P d [] x p a = p
+look-each P d (row l h v ∷ rs) x p a =
+    by-test (leb l x)
+    (λ e. by-test (leb x h)
+    (λ f. subst (λ (b : Bool). P (pick b v (look d rs x))) (sym (within-in l h x (leb-true l x e) (leb-true x h f))) (a .0 (leb-true l x e) (leb-true x h f)))
+    (λ f. subst (λ (b : Bool). P (pick b v (look d rs x))) (sym (within-above l h x (leb-false x h f))) (look-each P d rs x p (a .1))))
+    (λ e. subst (λ (b : Bool). P (pick b v (look d rs x))) (sym (within-below l h x (leb-false l x e))) (look-each P d rs x p (a .1)))

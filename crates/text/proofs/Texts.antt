@@ -22,11 +22,11 @@ use Rattle.text.specs.declared.utf8.Lead.the-variants.{Row as Lead·Row,
 use Rattle.text.specs.declared.utf8.Char.{Char}
 use Rattle.text.specs.declared.utf8.Char.the-variants.{Scalar, Bad, End}
 
--- ---- a character has a width, and its bytes are there
+-- ---- a character has a width, and its bytes are there; only where there are no bytes is there an end
 abbrev pub Fit : ℕ → Char → Type 0
 Fit n (Scalar c w) = (0 < w) × (w ≤ n)
 Fit n Bad = Unit {0}
-Fit n End = Unit {0}
+Fit n End = n ≤ 0
 
 fit-pick : (m : ℕ) (b : Bool) (ch : Char) → Fit m ch → Fit m (pick b ch Bad)
 fit-pick m true ch h = h
@@ -45,7 +45,7 @@ by-fit Never b r = tt
 
 pub fit : (l : List ℕ) → Fit (length l) (charOf l)
 unfolding charOf
-fit [] = tt
+fit [] = omega arith
 fit (b ∷ r) = by-fit (leadOf b) b r
 
 -- ---- the text after a character
@@ -58,7 +58,7 @@ skipped p (suc k) (b ∷ r) =
     let e : suc p + k ≡ p + suc k = omega arith in
     skipped (suc p) k r ∙ ap (λ (n : ℕ). textFrom n 0 (drop k r)) e
 
-after : (p : ℕ) (l : List ℕ) (c w : ℕ) → Scalar c w ≡ charOf l → (0 < w) × (w ≤ length l) → textFrom p 0 l ≡ char p (p + w) c (textFrom (p + w) 0 (drop w l))
+pub after : (p : ℕ) (l : List ℕ) (c w : ℕ) → Scalar c w ≡ charOf l → (0 < w) × (w ≤ length l) → textFrom p 0 l ≡ char p (p + w) c (textFrom (p + w) 0 (drop w l))
 unfolding textFrom
 after p [] c w e h = absurd (omega arith)
 after p (b ∷ r) c zero e h = absurd (omega arith)

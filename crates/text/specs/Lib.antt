@@ -6,3 +6,4 @@ pub mod Find
 pub mod Lines
 pub mod Number
 pub mod Sector
+pub mod Unicode
