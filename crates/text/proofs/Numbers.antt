@@ -1,12 +1,13 @@
 -- Reading digits one after the other, refusing what passes the limit as soon as it does, is `digitsOf`.
 -- Assumes nothing.
-use Prim.Native.Nat.{ℕ, _+_, _-_, _*_, _/_, _≤_, _<_}
+use Prim.Native.Nat.{ℕ, _+_, _-_, _*_, _/_, _^_, _≤_, _<_}
 use native.Mathlib.Omega.{arith}
 use mathlib.Core.List.{List, [], _∷_}
 use mathlib.Core.Bool.{Bool, true, false}
-use mathlib.Core.Path.{_≡_, refl, sym}
+use mathlib.Core.Path.{_≡_, refl, sym, _∙_}
 use lib.ListN.{length, getD, drop, length-drop, drop-of-length-le}
 use lib.Seq.{drop-cons}
+use native.Mathlib.Nat.{pow-zero, pow-succ', add-mul, mul-assoc, zero-mul}
 use native.Mathlib.Numerals.{add-one}
 use lib.Dec.{leb}
 use borrow.Author.Tests.{le-leb, lt-leb, leb-true, leb-false, eq-eqb, ne-eqb}
@@ -17,32 +18,46 @@ use Rattle.text.specs.declared.number.Num.{Num}
 use Rattle.text.specs.declared.number.Num.the-variants.{Value, Bad}
 use Rattle.text.proofs.Flat.{by-test, pick-same, within-in, within-below, within-above}
 
+-- what digits say after those that say v, from the left, as the code does
+valueOn : ℕ → List ℕ → ℕ
+valueOn v [] = v
+valueOn v (b ∷ r) = valueOn (v * 10 + (b - 0x30)) r
+
+on-is : (v : ℕ) (l : List ℕ) → valueOn v l ≡ v * 10 ^ length l + value l
+unfolding valueOn value
+on-is v [] = omega (arith, pow-zero 10)
+on-is v (b ∷ r) =
+    rw (on-is (v * 10 + (b - 0x30)) r, add-mul (v * 10) (b - 0x30) (10 ^ length r), mul-assoc v 10 (10 ^ length r), pow-succ' 10 (length r)) (omega arith)
+
+-- the number that digits say after those that say v, refused once it is above the limit
 unfoldable pub numFrom : ℕ → ℕ → List ℕ → Num
 numFrom limit v [] = Value v
 numFrom limit v (b ∷ r) = pick (digit b) (pick (leb (v * 10 + (b - 0x30)) limit) (numFrom limit (v * 10 + (b - 0x30)) r) Bad) Bad
 
-grows : (v : ℕ) (l : List ℕ) → v ≤ value v l
-unfolding value
+grows : (v : ℕ) (l : List ℕ) → v ≤ valueOn v l
+unfolding valueOn
 grows v [] = omega arith
 grows v (b ∷ r) = let h = grows (v * 10 + (b - 0x30)) r in omega arith
 
 -- within the limit so far: what is left decides
-from-is : (limit v : ℕ) (l : List ℕ) → v ≤ limit → numFrom limit v l ≡ pick (allDigits l) (upTo limit (value v l)) Bad
-unfolding numFrom allDigits value
+from-is : (limit v : ℕ) (l : List ℕ) → v ≤ limit → numFrom limit v l ≡ pick (allDigits l) (upTo limit (valueOn v l)) Bad
+unfolding numFrom allDigits valueOn
 from-is limit v [] h = rw (le-leb v limit h)
 from-is limit v (b ∷ r) h =
     by-test (digit b)
     (λ e. by-test (leb (v * 10 + (b - 0x30)) limit)
     (λ f. rw (e, f) (from-is limit (v * 10 + (b - 0x30)) r (leb-true _ _ f)))
     (λ f. let g = grows (v * 10 + (b - 0x30)) r in
-    let o : limit < value (v * 10 + (b - 0x30)) r = omega (arith, leb-false (v * 10 + (b - 0x30)) limit f) in
+    let o : limit < valueOn (v * 10 + (b - 0x30)) r = omega (arith, leb-false (v * 10 + (b - 0x30)) limit f) in
     rw (e, f, lt-leb _ _ o) (sym (pick-same (allDigits r) Bad))))
     (λ e. rw e)
 
 digits-is : (limit : ℕ) (l : List ℕ) → 0 < length l → digitsOf limit l ≡ numFrom limit 0 l
 unfolding digitsOf
 digits-is limit [] h = absurd (omega arith)
-digits-is limit (b ∷ r) h = sym (from-is limit 0 (b ∷ r) (omega arith))
+digits-is limit (b ∷ r) h =
+    let e : valueOn 0 (b ∷ r) ≡ value (b ∷ r) = on-is 0 (b ∷ r) ∙ rw zero-mul (omega arith) in
+    sym (from-is limit 0 (b ∷ r) (omega arith) ∙ rw e)
 
 -- Rules of `sign`
 pub sign-none : (t : List ℕ) → length t ≡ 0 → 0 ≡ signOf t
