@@ -16,6 +16,7 @@ use Rattle.text.specs.declared.utf8.Char.{Char}
 use Rattle.text.specs.declared.utf8.Char.the-variants.{Scalar, Bad, End}
 use Rattle.text.specs.declared.words.Trimmed.{Trimmed}
 use Rattle.text.specs.declared.words.Trimmed.the-variants.{Range, Wrong}
+use Rattle.text.specs.declared.words.Word.{Word}
 use Rattle.text.specs.declared.words.Word.the-variants.{Found, None}
 use Rattle.text.proofs.Flat.{by-test}
 use Rattle.text.proofs.Texts.{Fit, fit}
@@ -106,6 +107,19 @@ word-within t at {a} {e} h =
     let p₁ : x ≡ a = cc in
     let p₂ : y ≡ e = cc in
     omega (arith, eqb-false x y q, run-within true t at, run-within false t x))
+
+-- Rules for a caller that cuts a word out
+module _ (t : List ℕ) (at : ℕ) {r : Word} (e : r ≡ wordOf t at) {a b : ℕ} (q : r ≡ Found a b) where
+  pub word-after : at ≤ a
+  word-after = word-within t at (sym e ∙ q) .0
+
+  pub word-order : a ≤ b
+  word-order = let h = word-within t at (sym e ∙ q) in omega arith
+
+  pub word-inside : b ≤ length t
+  word-inside = word-within t at (sym e ∙ q) .2
+
+pub ruleset cuts = (word-after, word-order, word-inside, needs)
 
 -- Rules of `inner`: the range that trimming leaves can be cut out
 module _ (t : List ℕ) {r : Trimmed} (e : r ≡ trimOf t) where

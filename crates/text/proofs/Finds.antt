@@ -5,7 +5,7 @@ use native.Mathlib.Omega.{arith}
 use native.Mathlib.Numerals.{add-one}
 use mathlib.Core.List.{List, [], _∷_}
 use mathlib.Core.Bool.{Bool, true, false}
-use mathlib.Core.Path.{_≡_, refl, sym}
+use mathlib.Core.Path.{_≡_, refl, sym, _∙_}
 use borrow.Author.Needs.{needs}
 use lib.ListN.{length, getD, take, drop, drop-of-length-le, length-drop}
 use lib.Seq.{drop-cons}
@@ -104,6 +104,10 @@ inside b p (x ∷ r) {i} h =
 pub found-within : (b : ℕ) (t : List ℕ) (at : ℕ) {i : ℕ} → findAt b t at ≡ Here i → (at ≤ i) × (i < length t)
 unfolding findAt
 found-within b t at h = let q = rw length-drop at (inside b at (drop at t) h) in omega arith
+
+-- The rule for a caller that cuts at a place found
+pub found-below : (b : ℕ) (t : List ℕ) (at : ℕ) {i : ℕ} {f : Place} → f ≡ findAt b t at → f ≡ Here i → i < length t
+found-below b t at e q = found-within b t at (sym e ∙ q) .1
 
 -- Rules of `line_end`
 module _ (t : List ℕ) (at : ℕ) {f : Place} (e : f ≡ findAt 0x0A t at) where
