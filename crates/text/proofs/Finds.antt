@@ -11,7 +11,6 @@ use lib.ListN.{length, getD, take, drop, drop-of-length-le, length-drop}
 use lib.Seq.{drop-cons}
 use lib.Dec.{eqb}
 use borrow.Author.Tests.{eq-eqb, ne-eqb, le-leb, lt-leb}
-use Rattle.text.specs.Ranges.{pick}
 use Rattle.text.specs.Find.{findFrom, findAt, lineEnd, same, begins, stripOf}
 use Rattle.text.specs.declared.find.Place.{Place}
 use Rattle.text.specs.declared.find.Part.{Part}

@@ -16,9 +16,9 @@ use Rattle.text.specs.declared.sector.ByteCount.the-variants.{Count as B
 abbrev pub sectorSize : ℕ
 sectorSize = 512
 
--- 2^64-1
-abbrev pub most : ℕ
-most = 18446744073709551615
+-- the largest number of bytes, or of sectors, that is kept: 2^64-1
+abbrev pub largest : ℕ
+largest = 18446744073709551615
 
 -- a number as a count of sectors
 abbrev pub sectorsBy : Num → SectorCount
@@ -27,8 +27,8 @@ sectorsBy Bad = Sectors·Bad
 
 -- the sector count that a text is: a number up to 2^64-1
 unfoldable pub sectorsOf : List ℕ → SectorCount
-sectorsOf t = sectorsBy (numberOf most t)
+sectorsOf t = sectorsBy (numberOf largest t)
 
 -- the bytes that so many sectors have, if they are at most 2^64-1
 unfoldable pub bytesOf : Sectors → ByteCount
-bytesOf s = pick (leb (s .0 * sectorSize) most) (Bytes·Count (record { 0 = s .0 * sectorSize })) TooLarge
+bytesOf s = pick (leb (s .0 * sectorSize) largest) (Bytes·Count (record { 0 = s .0 * sectorSize })) TooLarge

@@ -1,0 +1,20 @@
+use Rattle.descriptor.proofs.Extents.{seconds}
+use Rattle.descriptor.proofs.extent.second_word.Statement.{statement}
+use Rattle.descriptor.proofs.extent.second_word.Tie as tie
+
+pub second-word-spec : {M : Type 1} → statement M
+second-word-spec =
+    tie.close
+    (tie.spec
+    (λ c κs. search seconds)
+    (λ c. search seconds)
+    (λ c. search seconds)
+    (λ c. search seconds)
+    (λ c. search seconds)
+    (λ c κs. search seconds)
+    (λ c. search seconds)
+    (λ c. search seconds)
+    (λ c. search seconds)
+    (λ c. search seconds)
+    (λ c. search seconds)
+    (λ c. search seconds))

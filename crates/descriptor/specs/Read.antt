@@ -1,0 +1,84 @@
+-- Reading: length, then sparse bytes, then line by line; after the lines the version, and then, extent by extent, the sizes.
+use Prim.Native.Nat.{ℕ, suc, _+_}
+use mathlib.Core.List.{List, [], _∷_, _++_}
+use lib.ListN.{length}
+use lib.Dec.{leb, ltb}
+use Rattle.text.specs.Ranges.{pick, within}
+use Rattle.text.specs.Find.{begins}
+use Rattle.text.specs.Lines.{linesOf}
+use Rattle.text.specs.Sector.{bytesOf, largest}
+use Rattle.text.specs.declared.sector.ByteCount.{ByteCount}
+use Rattle.text.specs.declared.sector.ByteCount.the-variants.{Count, TooLarge}
+use Rattle.descriptor.specs.Record.{most, noDesc, descOf, recordOf, noRecord, refusal}
+use Rattle.descriptor.specs.Line.{lineOf}
+use Rattle.descriptor.specs.declared.line.Setting.{Setting}
+use Rattle.descriptor.specs.declared.line.Setting.the-variants.{Version, Cid, ParentCid, CreateType, Sectors, Heads, Cylinders}
+use Rattle.descriptor.specs.declared.line.Said.{Said}
+use Rattle.descriptor.specs.declared.line.Said.the-variants.{Nothing, Extent, Set, Refused}
+use Rattle.descriptor.specs.declared.record.Verdict.{Verdict}
+use Rattle.descriptor.specs.declared.record.Verdict.the-variants.{Sound, Refused as Stopped}
+use Rattle.descriptor.specs.declared.record.VmdkDesc.{VmdkDesc}
+use Rattle.descriptor.specs.declared.record.VmdkParsedExtent.{VmdkParsedExtent}
+use Rattle.descriptor.specs.declared.read.Read.{Read}
+
+-- the least and the most bytes of a descriptor
+abbrev pub leastBytes : ℕ
+leastBytes = 4
+
+abbrev pub mostBytes : ℕ
+mostBytes = 2097152
+
+-- the first four bytes of a sparse file
+abbrev pub sparse : List ℕ
+sparse = 0x4B ∷ 0x44 ∷ 0x4D ∷ 0x56 ∷ []
+
+-- what a verdict answers for some values and extents: a refused read answers an empty record
+abbrev pub answer : Verdict → VmdkDesc → List VmdkParsedExtent → Read
+answer Sound d xs = record { verdict = Sound; descriptor = recordOf d xs }
+answer (Stopped r) d xs = record { verdict = Stopped r; descriptor = noRecord }
+
+abbrev pub refusedRead : ℕ → ℕ → Read
+refusedRead number second = record { verdict = refusal number second; descriptor = noRecord }
+
+-- a value is set; a repeated key overwrites
+unfoldable pub setOf : VmdkDesc → Setting → VmdkDesc
+setOf d (Version v) = descOf v (d .cid) (d .«parent_cid») (d .«create_type») (d .sectors) (d .heads) (d .cylinders)
+setOf d (Cid t) = descOf (d .version) t (d .«parent_cid») (d .«create_type») (d .sectors) (d .heads) (d .cylinders)
+setOf d (ParentCid t) = descOf (d .version) (d .cid) t (d .«create_type») (d .sectors) (d .heads) (d .cylinders)
+setOf d (CreateType t) = descOf (d .version) (d .cid) (d .«parent_cid») t (d .sectors) (d .heads) (d .cylinders)
+setOf d (Sectors n) = descOf (d .version) (d .cid) (d .«parent_cid») (d .«create_type») n (d .heads) (d .cylinders)
+setOf d (Heads n) = descOf (d .version) (d .cid) (d .«parent_cid») (d .«create_type») (d .sectors) n (d .cylinders)
+setOf d (Cylinders n) = descOf (d .version) (d .cid) (d .«parent_cid») (d .«create_type») (d .sectors) (d .heads) n
+
+-- the running sum, within 2^64-1; i is the extent's number
+abbrev pub summed : ℕ → ℕ → ByteCount → (ℕ → Verdict) → Verdict
+summed i sum (Count b) go = pick (leb (sum + b .0) largest) (go (sum + b .0)) (refusal 19 i)
+summed i sum TooLarge go = refusal 18 i
+
+-- extent by extent: sectors times 512, then the running sum
+unfoldable pub sizesFrom : ℕ → ℕ → List VmdkParsedExtent → Verdict
+sizesFrom i sum [] = Sound
+sizesFrom i sum (x ∷ xs) = summed i sum (bytesOf (x .sectors)) (λ s. sizesFrom (suc i) s xs)
+
+-- after the lines: version 1 to 3; then the sizes
+unfoldable pub checked : VmdkDesc → List VmdkParsedExtent → Read
+checked d xs = pick (within 1 3 (d .version)) (answer (sizesFrom 0 0 xs) d xs) (refusedRead 17 0)
+
+-- line k: a refusal is answered with its line; 16 at a sound 129th extent line
+abbrev pub byLine : ℕ → Said → VmdkDesc → List VmdkParsedExtent → (VmdkDesc → List VmdkParsedExtent → Read) → Read
+byLine k Nothing d xs go = go d xs
+byLine k (Set s) d xs go = go (setOf d s) xs
+byLine k (Extent x) d xs go = pick (ltb (length xs) most) (go d (xs ++ (x ∷ []))) (refusedRead 16 k)
+byLine k (Refused n) d xs go = refusedRead n k
+
+-- the lines from number k on, the first of which lies at the place p of the descriptor, after the values and extents so far
+unfoldable pub readLines : ℕ → ℕ → VmdkDesc → List VmdkParsedExtent → List (List ℕ) → Read
+readLines k p d xs [] = checked d xs
+readLines k p d xs (l ∷ ls) = byLine k (lineOf p l) d xs (λ d xs. readLines (suc k) (p + length l + 1) d xs ls)
+
+-- reading a descriptor
+unfoldable pub readOf : List ℕ → Read
+readOf t =
+    pick (ltb (length t) leastBytes) (refusedRead 1 0)
+    (pick (ltb mostBytes (length t)) (refusedRead 2 0)
+    (pick (begins t sparse) (refusedRead 3 0) (readLines 1 0 noDesc [] (linesOf t))))
