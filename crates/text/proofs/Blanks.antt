@@ -1,11 +1,11 @@
 -- A `match` with ranges comes to a place where the number lies in lo to hi and is none of some keys.
 -- There every listed number lies outside or is a key, or every number of lo to hi is listed: both are computed from lo, hi and the keys.
-use Prim.Native.Nat.{ℕ, zero, suc, _+_, _≤_, _<_}
+use Prim.Native.Nat.{ℕ, zero, suc, _+_, _≤_}
 use native.Mathlib.Omega.{arith}
 use mathlib.Core.List.{List, [], _∷_}
 use mathlib.Core.Bool.{Bool, true, false}
 use mathlib.Core.Path.{_≡_, refl, sym, subst, ap, _∙_}
-use lib.Dec.{T, ltb, eqb}
+use lib.Dec.{T, ltb}
 use borrow.Author.Tests.{ne-eqb, ltb-true, ltb-false}
 use types.Run.{OneOf, hit}
 use mir.Val.{hasKey}

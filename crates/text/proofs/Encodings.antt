@@ -1,14 +1,14 @@
 -- Each row of Table 3-7 reads the encodings of one range of scalar values, and no other bytes: the bits that a row takes together
 -- are laid out again by Table 3-6 as the bytes that were read, and those of a scalar value fall in the row of its range.
-use Prim.Native.Nat.{ℕ, zero, suc, _+_, _*_, _/_, _%_, _≤_, _<_}
+use Prim.Native.Nat.{ℕ, suc, _+_, _*_, _/_, _%_, _≤_, _<_}
 use native.Mathlib.Omega.{arith}
 use mathlib.Core.List.{List, [], _∷_, _++_}
-use mathlib.Core.Bool.{Bool, true, false}
+use mathlib.Core.Bool.{true, false}
 use mathlib.Core.Path.{_≡_, refl, sym, ap, subst, _∙_}
-use lib.Dec.{T, leb, eqb}
+use lib.Dec.{leb, eqb}
 use lib.ListN.{length, drop}
 use borrow.Author.Tests.{le-leb, lt-leb, leb-true, leb-false, eq-eqb, eqb-true}
-use Rattle.text.specs.Ranges.{Row, row, look, pick, within}
+use Rattle.text.specs.Ranges.{look, within}
 use Rattle.text.specs.Find.{begins}
 use Rattle.text.specs.Utf8.{leads, leadOf, tailOf, charBy, charOf}
 use Rattle.text.specs.Unicode.{scalar, trailing, encode, Stands}

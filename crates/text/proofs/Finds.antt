@@ -1,5 +1,5 @@
--- `findAt` and `same` at a place of a text, by the byte there.
--- Assumes nothing.
+-- What is to be found, compared or stripped from a place on is decided by the byte there and by what is left after it.
+-- So each turn of a loop is one unfolding of its definition, and a place that is found lies where it was looked for.
 use Prim.Native.Nat.{ℕ, suc, _+_, _-_, _≤_, _<_}
 use native.Mathlib.Omega.{arith}
 use native.Mathlib.Numerals.{add-one}
@@ -11,7 +11,6 @@ use lib.ListN.{length, getD, take, drop, drop-of-length-le, length-drop}
 use lib.Seq.{drop-cons}
 use lib.Dec.{eqb}
 use borrow.Author.Tests.{eq-eqb, ne-eqb, le-leb, lt-leb}
-use Rattle.text.specs.Ranges.{pick}
 use Rattle.text.specs.Find.{findFrom, findAt, lineEnd, same, begins, stripOf}
 use Rattle.text.specs.declared.find.Place.{Place}
 use Rattle.text.specs.declared.find.Part.{Part}

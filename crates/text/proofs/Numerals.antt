@@ -1,18 +1,16 @@
 -- A text is accepted as a number exactly if it is a numeral whose value is within the limit: correct and complete.
 -- A digit is no `+`, so the sign's test tells the two ways to write a numeral apart; a zero in front adds nothing to the value.
-use Prim.Native.Nat.{ℕ, zero, suc, _-_, _*_, _^_, _≤_, _<_}
+use Prim.Native.Nat.{ℕ, zero, suc, _^_, _≤_, _<_}
 use native.Mathlib.Omega.{arith}
 use native.Mathlib.Nat.{zero-mul}
 use mathlib.Core.List.{List, [], _∷_, _++_}
 use mathlib.Core.Logic.{_⊎_, inl, inr}
-use mathlib.Core.Bool.{Bool, true, false}
-use mathlib.Core.Path.{_≡_, refl, sym, ap, _∙_}
+use mathlib.Core.Bool.{true, false}
+use mathlib.Core.Path.{_≡_, refl}
 use lib.ListN.{length}
 use lib.Dec.{leb, eqb}
-use borrow.Author.Tests.{le-leb, leb-true, eqb-true, eq-eqb}
-use Rattle.text.specs.Ranges.{pick}
-use Rattle.text.specs.Number.{digit, allDigits, value, upTo, digitsOf, digitsAt, signOf, numberOf, Numeral, zeros}
-use Rattle.text.specs.declared.number.Num.{Num}
+use borrow.Author.Tests.{leb-true, eqb-true}
+use Rattle.text.specs.Number.{allDigits, value, upTo, digitsOf, digitsAt, signOf, numberOf, Numeral, zeros}
 use Rattle.text.specs.declared.number.Num.the-variants.{Value, Bad}
 use Rattle.text.proofs.Flat.{by-test}
 

@@ -3,11 +3,10 @@
 use Prim.Native.Nat.{ℕ, zero, suc, _+_, _-_, _≤_, _<_}
 use native.Mathlib.Omega.{arith}
 use mathlib.Core.List.{List, [], _∷_, _++_}
-use mathlib.Core.Bool.{Bool, true, false}
+use mathlib.Core.Bool.{true, false}
 use mathlib.Core.Path.{_≡_, refl, sym, ap, subst, _∙_}
 use lib.ListN.{length, drop}
 use lib.Seq.{drop-nil, drop-append-seam}
-use Rattle.text.specs.Ranges.{pick}
 use Rattle.text.specs.Utf8.{charOf}
 use Rattle.text.specs.Text.{Text, put, textFrom, textAt, sound, codes}
 use Rattle.text.specs.Unicode.{scalar, encode, scalars, encodeAll}

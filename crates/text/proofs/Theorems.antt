@@ -1,6 +1,6 @@
 -- What the text layer promises, in the words of the rules: start here. Each theorem is about the definitions of specs/, which the
 -- contracts of src/ name, and is proved by citing the laws of its subject.
-use Prim.Native.Nat.{ℕ, suc, _*_, _≤_, _<_}
+use Prim.Native.Nat.{ℕ, suc, _≤_, _<_}
 use native.Mathlib.Omega.{arith}
 use mathlib.Core.List.{List, [], _∷_, _++_}
 use mathlib.Core.Logic.{_↔_, inl, inr}
@@ -8,13 +8,13 @@ use mathlib.Core.Bool.{true, false}
 use mathlib.Core.Path.{_≡_, refl, sym, ap, _∙_}
 use lib.ListN.{length, drop, length-drop, length-append}
 use borrow.Author.Tests.{le-leb}
-use Rattle.text.specs.Utf8.{charOf, charAt}
-use Rattle.text.specs.Unicode.{scalar, encode, Stands, scalars, encodeAll}
+use Rattle.text.specs.Utf8.{charAt}
+use Rattle.text.specs.Unicode.{encode, Stands, scalars, encodeAll}
 use Rattle.text.specs.Text.{textAt, sound, codes}
 use Rattle.text.specs.Blank.{whiteSpace, blank}
 use Rattle.text.specs.Lines.{linesOf, count, joinLines}
 use Rattle.text.specs.Number.{allDigits, value, digitsOf, digitsAt, signOf, numberOf, Numeral, zeros}
-use Rattle.text.specs.declared.utf8.Char.the-variants.{Scalar, Bad, End}
+use Rattle.text.specs.declared.utf8.Char.the-variants.{Scalar, Bad}
 use Rattle.text.specs.declared.number.Num.the-variants.{Value, Bad as Num·Bad}
 use Rattle.text.proofs.Flat.{Each}
 use Rattle.text.proofs.Encodings.{read-encoding, stands-read, none-stands}

@@ -1,5 +1,5 @@
--- Trimming as the code does it, one character after the other, is `trimText`.
--- Assumes nothing.
+-- Trimming as the code does it, one character after the other with the range marked so far, is `trimText`.
+-- Before the first character that is no blank nothing is marked; from it on, the mark's end is the last such character's end.
 use Prim.Native.Nat.{ℕ, _+_}
 use mathlib.Core.List.{List}
 use mathlib.Core.Bool.{Bool, true, false}
