@@ -1,5 +1,5 @@
--- Where the characters, the range that trimming leaves and the words of a text lie.
--- Assumes nothing.
+-- Characters follow each other and each ends within the text, so every place that trimming, a run or a word answers lies within it.
+-- By recursion on the characters, with the place from which they start and the end of the text.
 use Prim.Native.Nat.{ℕ, zero, suc, _+_, _-_, _≤_, _<_, max}
 use native.Mathlib.Omega.{arith}
 use mathlib.Core.List.{List, [], _∷_}

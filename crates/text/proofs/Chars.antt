@@ -1,5 +1,5 @@
--- The definitions of `specs/Utf8.antt` at a place of a text, by the bytes there.
--- Assumes nothing.
+-- A character at a place is decided by its first byte's row of Table 3-7 and then byte by byte, each with six bits more.
+-- So each way through `tail` and `next_char` is one unfolding of `tailOf` or `charOf`; what is left of the bits is bounded by `cap`.
 use Prim.Native.Nat.{ℕ, zero, suc, _+_, _-_, _*_, _%_, _≤_, _<_}
 use native.Mathlib.Omega.{arith}
 use native.Mathlib.Numerals.{add-one}

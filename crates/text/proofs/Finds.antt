@@ -1,17 +1,17 @@
--- `findAt` and `same` at a place of a text, by the byte there.
--- Assumes nothing.
+-- What is to be found, compared or stripped from a place on is decided by the byte there and by what is left after it.
+-- So each turn of a loop is one unfolding of its definition, and a place that is found lies where it was looked for.
 use Prim.Native.Nat.{ℕ, suc, _+_, _-_, _≤_, _<_}
 use native.Mathlib.Omega.{arith}
 use native.Mathlib.Numerals.{add-one}
-use mathlib.Core.List.{List, [], _∷_}
+use mathlib.Core.List.{List, [], _∷_, _++_}
 use mathlib.Core.Bool.{Bool, true, false}
 use mathlib.Core.Path.{_≡_, refl, sym, _∙_}
 use borrow.Author.Needs.{needs}
-use lib.ListN.{length, getD, take, drop, drop-of-length-le, length-drop}
-use lib.Seq.{drop-cons}
+use lib.ListN.{length, getD, take, drop, drop-of-length-le, length-drop, length-append}
+use lib.Seq.{drop-cons, getD-append-seam, take-append-seam}
 use lib.Dec.{eqb}
 use borrow.Author.Tests.{eq-eqb, ne-eqb, le-leb, lt-leb}
-use Rattle.text.specs.Find.{findFrom, findAt, lineEnd, same, begins, stripOf}
+use Rattle.text.specs.Find.{findFrom, findAt, lineEnd, same, begins, stripOf, partOf}
 use Rattle.text.specs.declared.find.Place.{Place}
 use Rattle.text.specs.declared.find.Part.{Part}
 use Rattle.text.specs.declared.find.Place.the-variants.{Here, Nowhere}
@@ -142,3 +142,12 @@ module _ (t : List ℕ) where
   strip-both h a b = rw (le-leb _ _ h, eq-eqb _ _ a, eq-eqb _ _ b)
 
 pub ruleset strips = (strip-short, strip-open, strip-close, strip-both, needs)
+
+-- a text in quotes is stripped to what stands between them
+pub strip-between : (l : List ℕ) → partOf (0x22 ∷ l ++ 0x22 ∷ []) (stripOf (0x22 ∷ l ++ 0x22 ∷ [])) ≡ l
+strip-between l =
+    let n : length (0x22 ∷ l ++ 0x22 ∷ []) ≡ length l + 2 = rw length-append (omega arith) in
+    let m : length (0x22 ∷ l ++ 0x22 ∷ []) - 1 - 1 ≡ length l = omega arith in
+    let k : length (0x22 ∷ l ++ 0x22 ∷ []) - 1 ≡ length (0x22 ∷ l) = omega arith in
+    let q : getD (0x22 ∷ l ++ 0x22 ∷ []) (length (0x22 ∷ l ++ 0x22 ∷ []) - 1) 0 ≡ 0x22 = rw k (getD-append-seam (0x22 ∷ l) 0x22 [] 0) in
+    rw (← strip-both (0x22 ∷ l ++ 0x22 ∷ []) (omega arith) refl q, m) (take-append-seam l (0x22 ∷ []))

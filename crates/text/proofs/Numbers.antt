@@ -1,5 +1,5 @@
--- Reading digits one after the other, refusing what passes the limit as soon as it does, is `digitsOf`.
--- Assumes nothing.
+-- Reading digits from the left and refusing as soon as the limit is passed is `digitsOf`: the value only grows, so it stays refused.
+-- The value so far, times ten, and a digit more is the value of the digits so far, by the places of the digits.
 use Prim.Native.Nat.{ℕ, _+_, _-_, _*_, _/_, _^_, _≤_, _<_}
 use native.Mathlib.Omega.{arith}
 use mathlib.Core.List.{List, [], _∷_}

@@ -1,5 +1,5 @@
--- The lists that parts of a slice hold.
--- Assumes nothing.
+-- The lists that parts of a slice hold: `&s[k..]` is what is left after k, and `&s[..k]` has k elements.
+-- Both by the length of what `drop` and `take` leave.
 use Prim.Native.Nat.{ℕ, _-_, _≤_}
 use native.Mathlib.Omega.{arith}
 use mathlib.Core.List.{List}

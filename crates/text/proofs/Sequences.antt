@@ -8,7 +8,7 @@ use mathlib.Core.Path.{_≡_, refl, sym, ap, subst, _∙_}
 use lib.ListN.{length, drop}
 use lib.Seq.{drop-nil, drop-append-seam}
 use Rattle.text.specs.Utf8.{charOf}
-use Rattle.text.specs.Text.{Text, put, textFrom, textAt, sound, codes}
+use Rattle.text.specs.Text.{Text, done, char, put, textFrom, textAt, sound, codes}
 use Rattle.text.specs.Unicode.{scalar, encode, scalars, encodeAll}
 use Rattle.text.specs.declared.utf8.Char.{Char}
 use Rattle.text.specs.declared.utf8.Char.the-variants.{Scalar, Bad, End}
@@ -47,22 +47,37 @@ sound-cut t = cuts 0 0 t (omega arith)
 wide : (c : ℕ) (l : List ℕ) → scalar c ≡ true → (0 < length (encode c)) × (length (encode c) ≤ length (encode c ++ l))
 wide c l s = subst (Fit (length (encode c ++ l))) (encoding-read c l s) (fit (encode c ++ l))
 
-nothing : (p : ℕ) → (sound (textFrom p 0 []) ≡ true) × (codes (textFrom p 0 []) ≡ [])
-unfolding textFrom sound codes
-nothing p = (refl, refl)
+-- the characters of the encodings of cs, from the place p on
+unfoldable pub spell : ℕ → List ℕ → Text
+spell p [] = done
+spell p (c ∷ cs) = char p (p + length (encode c)) c (spell (p + length (encode c)) cs)
 
-joins : (cs : List ℕ) (p : ℕ) → scalars cs ≡ true → (sound (textFrom p 0 (encodeAll cs)) ≡ true) × (codes (textFrom p 0 (encodeAll cs)) ≡ cs)
-unfolding scalars encodeAll sound codes
-joins [] p s = nothing p
-joins (c ∷ cs) p s =
+nothing : (p : ℕ) → textFrom p 0 [] ≡ done
+unfolding textFrom
+nothing p = refl
+
+-- encodings of scalar values are read as those values
+pub spelled : (cs : List ℕ) (p : ℕ) → scalars cs ≡ true → textFrom p 0 (encodeAll cs) ≡ spell p cs
+unfolding scalars encodeAll spell
+spelled [] p s = nothing p
+spelled (c ∷ cs) p s =
     by-test (scalar c)
     (λ e. let n : ℕ = length (encode c) in
-    let h = joins cs (p + n) (rw e at s) in
     let m = after p (encode c ++ encodeAll cs) c n (sym (encoding-read c (encodeAll cs) e)) (wide c (encodeAll cs) e) in
-    rw (m, drop-append-seam (encode c) (encodeAll cs)) (h .0, rw (h .1)))
+    rw (m, drop-append-seam (encode c) (encodeAll cs), spelled cs (p + n) (rw e at s)))
     (λ e. let g : false ≡ true = rw e at s in let z : _≡_ {A = ℕ} 0 1 = cc in absurd (omega arith))
+
+pub spell-sound : (p : ℕ) (cs : List ℕ) → sound (spell p cs) ≡ true
+unfolding spell sound
+spell-sound p [] = refl
+spell-sound p (c ∷ cs) = spell-sound (p + length (encode c)) cs
+
+spell-codes : (p : ℕ) (cs : List ℕ) → codes (spell p cs) ≡ cs
+unfolding spell codes
+spell-codes p [] = refl
+spell-codes p (c ∷ cs) = rw (spell-codes (p + length (encode c)) cs)
 
 -- the encodings of scalar values are a sound text, whose code points they are
 pub sound-join : (cs : List ℕ) → scalars cs ≡ true → (sound (textAt (encodeAll cs) 0) ≡ true) × (codes (textAt (encodeAll cs) 0) ≡ cs)
 unfolding textAt
-sound-join cs s = joins cs 0 s
+sound-join cs s = rw (spelled cs 0 s) (spell-sound 0 cs, spell-codes 0 cs)

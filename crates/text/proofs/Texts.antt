@@ -1,5 +1,5 @@
--- Laws of the characters of a text: how wide a character is, and how the text goes on after it.
--- Assumes nothing.
+-- A character is at least one byte wide and its bytes are there, so after it the text goes on at a later place within the text.
+-- Passing its bytes over one by one comes to what `drop` leaves, which is where the next character is read.
 use Prim.Native.Nat.{ℕ, zero, suc, _+_, _-_, _*_, _%_, _^_, _≤_, _<_}
 use native.Mathlib.Omega.{arith}
 use native.Mathlib.Nat.{add-zero}

@@ -1,24 +1,36 @@
 -- What the text layer promises, in the words of the rules: start here. Each theorem is about the definitions of specs/, which the
 -- contracts of src/ name, and is proved by citing the laws of its subject.
-use Prim.Native.Nat.{ℕ, suc, _≤_, _<_}
+use Prim.Native.Nat.{ℕ, suc, _-_, _*_, _≤_, _<_}
 use native.Mathlib.Omega.{arith}
 use mathlib.Core.List.{List, [], _∷_, _++_}
 use mathlib.Core.Logic.{_↔_, inl, inr}
 use mathlib.Core.Bool.{true, false}
-use mathlib.Core.Path.{_≡_, refl, sym, ap, _∙_}
-use lib.ListN.{length, drop, length-drop, length-append}
+use mathlib.Core.Path.{_≡_, refl, sym, ap, subst, _∙_}
+use lib.ListN.{length, take, drop, length-drop, length-append}
 use borrow.Author.Tests.{le-leb}
 use Rattle.text.specs.Utf8.{charAt}
 use Rattle.text.specs.Unicode.{encode, Stands, scalars, encodeAll}
-use Rattle.text.specs.Text.{textAt, sound, codes}
+use Rattle.text.specs.Text.{textAt, sound, codes, trimOf, trimmed, wordOf, trimCodes, wordCodes}
 use Rattle.text.specs.Blank.{whiteSpace, blank}
 use Rattle.text.specs.Lines.{linesOf, count, joinLines}
 use Rattle.text.specs.Number.{allDigits, value, digitsOf, digitsAt, signOf, numberOf, Numeral, zeros}
-use Rattle.text.specs.declared.utf8.Char.the-variants.{Scalar, Bad}
+use Rattle.text.specs.Find.{stripOf, partOf}
+use Rattle.text.specs.Sector.{bytesOf}
+use Rattle.text.specs.declared.utf8.Char.the-variants.{Scalar, Bad, End}
 use Rattle.text.specs.declared.number.Num.the-variants.{Value, Bad as Num·Bad}
+use Rattle.text.specs.declared.words.Trimmed.the-variants.{Wrong}
+use Rattle.text.specs.declared.words.Word.the-variants.{Found, None}
+use Rattle.text.specs.declared.sector.Sectors.{Sectors}
+use Rattle.text.specs.declared.sector.ByteCount.the-variants.{Count, TooLarge}
 use Rattle.text.proofs.Flat.{Each}
+use Rattle.text.proofs.Chars.{char-end}
+use Rattle.text.proofs.Texts.{Fit, fit}
 use Rattle.text.proofs.Encodings.{read-encoding, stands-read, none-stands}
 use Rattle.text.proofs.Sequences.{sound-cut, sound-join}
+use Rattle.text.proofs.Trims.{trim-wrong}
+use Rattle.text.proofs.Spellings.{trimmed-codes, word-none-codes, word-some-codes}
+use Rattle.text.proofs.Finds.{strip-between}
+use Rattle.text.proofs.Sectors.{bytes-rule, bytes-large}
 use Rattle.text.proofs.Lines.{Whole, lines-count, lines-join, lines-whole}
 use Rattle.text.proofs.Numerals.{number-out, number-in, zeros-value, zeros-digits}
 
@@ -35,6 +47,14 @@ unfolding charAt
 step-bad t at h = (
   λ e c s. let g : Bad ≡ Scalar c (length (encode c)) = sym e ∙ stands-read c (drop at t) s in let z : _≡_ {A = ℕ} 0 1 = cc in absurd (omega arith),
   λ n. none-stands (drop at t) (simp length-drop (omega arith)) n,
+)
+
+-- The step answers that the text is at its end exactly where no byte is left.
+pub step-end : (t : List ℕ) (at : ℕ) → (charAt t at ≡ End) ↔ (length t ≤ at)
+unfolding charAt
+step-end t at = (
+  λ e. let f : length (drop at t) ≤ 0 = subst (Fit (length (drop at t))) e (fit (drop at t)) in omega (arith, rw length-drop at f),
+  λ h. sym (char-end t at h),
 )
 
 -- A text is accepted exactly if it is a concatenation of encodings of scalar values ..
@@ -56,6 +76,19 @@ blanks-count = refl
 pub never-blank : Each (λ (c : ℕ). blank c ≡ false) (0x1C ∷ 0x1D ∷ 0x1E ∷ 0x1F ∷ 0x180E ∷ 0x200B ∷ 0x2060 ∷ 0xFEFF ∷ [])
 unfolding blank
 never-blank = (refl, (refl, (refl, (refl, (refl, (refl, (refl, (refl, tt))))))))
+
+-- ---- trimming and words
+-- Trimming refuses a text exactly if it is not accepted as UTF-8.
+pub trim-refuses : (t : List ℕ) → (trimOf t ≡ Wrong) ↔ (sound (textAt t 0) ≡ false)
+trim-refuses t = trim-wrong t
+
+-- It leaves the text without the blanks at both ends.
+pub trimming : (cs : List ℕ) → scalars cs ≡ true → trimmed (encodeAll cs) ≡ encodeAll (trimCodes cs)
+trimming cs s = trimmed-codes cs s
+
+-- The next word from a place is what stands past the blanks there and up to a blank; there is none if nothing stands there.
+pub next-word : (t : List ℕ) (at : ℕ) (cs : List ℕ) → scalars cs ≡ true → drop at t ≡ encodeAll cs → ((wordOf t at ≡ None) ↔ (wordCodes cs ≡ [])) × ((a e : ℕ) → wordOf t at ≡ Found a e → take (e - a) (drop a t) ≡ encodeAll (wordCodes cs))
+next-word t at cs s e = (word-none-codes t at cs s e, λ a b h. word-some-codes t at cs s e h)
 
 -- ---- lines
 -- The lines are the parts between bytes 0A: joined by them they are the text, none of them holds one, and they are one more than there are.
@@ -82,3 +115,21 @@ leading-zeros n limit ds h d v =
 pub no-numbers : (limit : ℕ) → (numberOf limit [] ≡ Num·Bad) × (numberOf limit (0x2B ∷ []) ≡ Num·Bad) × (numberOf limit (0x2D ∷ 0x30 ∷ []) ≡ Num·Bad)
 unfolding numberOf digitsAt digitsOf signOf allDigits
 no-numbers limit = (refl, refl, refl)
+
+-- ---- quotes
+-- Quotes at both ends are stripped.
+pub quotes : (l : List ℕ) → partOf (0x22 ∷ (l ++ 0x22 ∷ [])) (stripOf (0x22 ∷ (l ++ 0x22 ∷ []))) ≡ l
+quotes l = strip-between l
+
+-- A lone quote stays.
+pub lone-quote : partOf (0x22 ∷ []) (stripOf (0x22 ∷ [])) ≡ 0x22 ∷ []
+unfolding stripOf
+lone-quote = refl
+
+-- ---- sectors
+-- So many sectors have b bytes exactly if that is 512 times as many, and within 2^64-1; else they are too large.
+pub sector-bytes : (s : Sectors) (b : ℕ) → (bytesOf s ≡ Count (record { 0 = b })) ↔ ((s .0 * 512 ≡ b) × (b ≤ 18446744073709551615))
+sector-bytes s b = bytes-rule s b
+
+pub sector-large : (s : Sectors) → (bytesOf s ≡ TooLarge) ↔ (18446744073709551615 < s .0 * 512)
+sector-large s = bytes-large s

@@ -1,15 +1,17 @@
--- Trimming as the code does it, one character after the other, is `trimText`.
--- Assumes nothing.
+-- Trimming as the code does it, one character after the other with the range marked so far, is `trimText`.
+-- Before the first character that is no blank nothing is marked; from it on, the mark's end is the last such character's end.
 use Prim.Native.Nat.{ℕ, _+_}
+use native.Mathlib.Omega.{arith}
 use mathlib.Core.List.{List}
 use mathlib.Core.Bool.{Bool, true, false}
+use mathlib.Core.Logic.{_↔_}
 use mathlib.Core.Path.{_≡_, refl, sym}
 use Rattle.text.specs.Ranges.{pick}
 use Rattle.text.specs.Utf8.{charAt}
 use Rattle.text.specs.Blank.{blank}
 use Rattle.text.specs.declared.utf8.Char.{Char}
 use Rattle.text.specs.declared.utf8.Char.the-variants.{Scalar, Bad, End}
-use Rattle.text.specs.Text.{Text, done, bad, char, sound, dropBlanks, lastEnd, trimText, trimOf, textAt, markOf}
+use Rattle.text.specs.Text.{Text, done, bad, char, sound, dropBlanks, lastEnd, rangeOf, trimText, trimOf, textAt, markOf}
 use Rattle.text.specs.declared.words.Trimmed.{Trimmed}
 use Rattle.text.specs.declared.words.Trimmed.the-variants.{Range, Wrong}
 use Rattle.text.specs.declared.words.Span.{Span}
@@ -73,3 +75,18 @@ pub mark-next : (s : Span) (b : Bool) (a e : ℕ) → b ≡ false → s .seen �
 mark-next s b a e h k = rw (h, k)
 
 pub ruleset marks = (mark-first, mark-next, needs)
+
+-- ---- trimming refuses exactly what is not sound
+sound-range : (x : Text) → sound x ≡ true → rangeOf (dropBlanks x) ≡ Wrong → ⊥
+unfolding sound dropBlanks
+sound-range done s h = let z : _≡_ {A = ℕ} 0 1 = cc in absurd (omega arith)
+sound-range bad s h = let z : _≡_ {A = ℕ} 0 1 = cc in absurd (omega arith)
+sound-range (char a e c r) s h =
+    by-test (blank c)
+    (λ q. sound-range r s (rw q at h))
+    (λ q. let g : Range a (lastEnd e r) ≡ Wrong = rw q at h in let z : _≡_ {A = ℕ} 0 1 = cc in absurd (omega arith))
+
+pub trim-wrong : (t : List ℕ) → (trimOf t ≡ Wrong) ↔ (sound (textAt t 0) ≡ false)
+unfolding trimOf trimText
+trim-wrong t =
+    (λ h. by-test (sound (textAt t 0)) (λ e. absurd (sound-range (textAt t 0) e (rw e at h))) (λ e. e), λ e. rw e)

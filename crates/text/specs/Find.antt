@@ -2,7 +2,7 @@
 use Prim.Native.Nat.{ℕ, suc, _-_}
 use mathlib.Core.List.{List, [], _∷_}
 use mathlib.Core.Bool.{Bool, true, false}
-use lib.ListN.{length, getD, drop}
+use lib.ListN.{length, getD, take, drop}
 use lib.Dec.{leb, eqb}
 use Rattle.text.specs.Ranges.{pick}
 use Rattle.text.specs.declared.find.Place.{Place}
@@ -48,3 +48,7 @@ quoted t =
 -- the part of a text within its quotes, or all of it where it is not in quotes
 unfoldable pub stripOf : List ℕ → Part
 stripOf t = pick (quoted t) (record { from = 1; to = length t - 1 }) (record { from = 0; to = length t })
+
+-- the bytes of a part
+abbrev pub partOf : List ℕ → Part → List ℕ
+partOf t p = take (p .to - p .from) (drop (p .from) t)

@@ -111,3 +111,32 @@ wordIn a e = pick (eqb a e) None (Found a e)
 -- the next word of t from the place at: past the blanks, up to a blank
 unfoldable pub wordOf : List ℕ → ℕ → Word
 wordOf t at = wordIn (runOf true t at) (runOf false t (runOf true t at))
+
+-- ---- the same on code points alone
+-- those in front that are blank, if blanks are wanted, or not blank, if they are not
+unfoldable pub runCodes : Bool → List ℕ → List ℕ
+runCodes w [] = []
+runCodes w (c ∷ cs) = pick (alike (blank c) w) (c ∷ runCodes w cs) []
+
+-- those after them
+unfoldable pub pastCodes : Bool → List ℕ → List ℕ
+pastCodes w [] = []
+pastCodes w (c ∷ cs) = pick (alike (blank c) w) (pastCodes w cs) (c ∷ cs)
+
+-- each is a blank
+unfoldable pub allBlank : List ℕ → Bool
+allBlank [] = true
+allBlank (c ∷ cs) = pick (blank c) (allBlank cs) false
+
+-- without the blanks at the end
+unfoldable pub endCodes : List ℕ → List ℕ
+endCodes [] = []
+endCodes (c ∷ cs) = pick (allBlank (c ∷ cs)) [] (c ∷ endCodes cs)
+
+-- without the blanks at both ends
+abbrev pub trimCodes : List ℕ → List ℕ
+trimCodes cs = endCodes (pastCodes true cs)
+
+-- the next word: past the blanks, up to a blank
+abbrev pub wordCodes : List ℕ → List ℕ
+wordCodes cs = runCodes false (pastCodes true cs)

@@ -1,5 +1,5 @@
--- `text::first_byte` meets its contract: at each arm the byte is a key, or lies in a range within which `leads` has one value.
--- Assumes nothing.
+-- `utf8::first_byte` meets its contract: at each arm the byte is a key, or lies in a range within which `leads` has one value.
+-- For a key the table is computed at it; for a range it is computed from the two ends.
 use Prim.Native.Nat.{ℕ, _≤_}
 use native.Mathlib.Omega.{arith}
 use mathlib.Core.Path.{_≡_, sym, ap}

@@ -1,5 +1,5 @@
--- `text::tail` meets its contract. The invariant: the character is what is left of it from `at` on, and its bits so far leave room for the rest.
--- Assumes nothing.
+-- `utf8::tail` meets its contract. The invariant: the character is what is left of it from `at` on, and its bits so far leave room
+-- for the rest; the bytes still to come fall.
 use Prim.Native.Nat.{_+_, _<_}
 use mathlib.Core.Path.{_≡_}
 use Rattle.text.specs.Utf8.{cap, tailAt}

@@ -1,3 +1,5 @@
+-- `words::run_end` meets its contract. The invariant: the run from `from` ends where the run from `at` does.
+-- A character of the wanted kind goes on, any other and the end stop; the bytes left fall.
 use Prim.Native.Nat.{_-_}
 use mathlib.Core.Path.{_≡_}
 use lib.ListN.{length}

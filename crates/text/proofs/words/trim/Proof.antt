@@ -1,5 +1,5 @@
--- `text::trim` meets its contract. The invariant: trimming the whole is going on from `at` with what is marked so far.
--- Assumes nothing.
+-- `words::trim` meets its contract. The invariant: trimming the whole is going on from `at` with what is marked so far.
+-- Each character read is one step of that, and the bytes left fall.
 use Prim.Native.Nat.{_-_}
 use mathlib.Core.Path.{_≡_}
 use lib.ListN.{length}
