@@ -1,0 +1,21 @@
+use Rattle.extents.proofs.Builds.{extents}
+use Rattle.extents.proofs.build.open_implicit_extent.Statement.{statement}
+use Rattle.extents.proofs.build.open_implicit_extent.Tie as tie
+use Rattle.extents.proofs.build.open_implicit_extent.Reads as reads
+use Rattle.extents.proofs.build.open_implicit_extent.Lts as lts
+use Rattle.extents.proofs.build.open_source.Reads as open-source-reads
+use Rattle.text.proofs.sector.Sectors.bytes.Reads as bytes-reads
+
+pub open-implicit-extent-spec : {M : Type 1} → statement M
+open-implicit-extent-spec =
+    tie.close
+    (tie.spec
+    (λ c κs. search extents)
+    (λ c. search extents)
+    (λ c. search extents)
+    (λ c. search extents)
+    (λ c. search extents)
+    (λ c κs. search extents)
+    (λ c. search extents)
+    (λ c. search extents)
+    (λ c. search extents))

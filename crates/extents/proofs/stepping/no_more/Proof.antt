@@ -1,0 +1,9 @@
+use Rattle.extents.proofs.Steps.{ends}
+use Rattle.extents.proofs.stepping.no_more.Statement.{statement}
+use Rattle.extents.proofs.stepping.no_more.Tie as tie
+use Rattle.extents.proofs.stepping.no_more.Reads as reads
+use Rattle.extents.proofs.stepping.no_more.Lts as lts
+use Rattle.extents.proofs.stepping.no_piece.Reads as no-piece-reads
+
+pub no-more-spec : {M : Type 1} → statement M
+no-more-spec = tie.close (tie.spec (λ c κs. search ends) (λ c. search ends))

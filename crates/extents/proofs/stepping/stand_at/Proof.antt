@@ -1,0 +1,9 @@
+use Rattle.extents.proofs.Steps.{stands}
+use Rattle.extents.proofs.stepping.stand_at.Statement.{statement}
+use Rattle.extents.proofs.stepping.stand_at.Tie as tie
+use Rattle.extents.proofs.stepping.stand_at.Reads as reads
+use Rattle.extents.proofs.stepping.stand_at.Lts as lts
+use Rattle.extents.proofs.stepping.halt.Reads as halt-reads
+
+pub stand-at-spec : {M : Type 1} → statement M
+stand-at-spec = tie.close (tie.spec (λ c κs. search stands) (λ c. search stands) (λ c κs. search stands) (λ c. search stands) (λ c. search stands))

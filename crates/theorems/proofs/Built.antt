@@ -1,0 +1,148 @@
+-- A table that was built is the one table of its extents' rows laid one after the other, because building adds a row for each extent and refuses otherwise.
+-- So every fact about its rows is a fact about sums of sizes.
+-- Assumes nothing.
+use Prim.Native.Nat.{ℕ, zero, suc, _+_, _-_, _*_, _<_, _≤_}
+use native.Mathlib.Omega.{arith}
+use mathlib.Core.List.{List, [], _∷_, _++_}
+use mathlib.Core.Bool.{Bool, true, false}
+use mathlib.Core.Path.{_≡_, refl, sym, ap, _∙_}
+use lib.ListN.{length, getD, take, replicate, length-take}
+use lib.Seq.{take-all}
+use lib.Dec.{leb}
+use borrow.Author.Tests.{leb-true}
+use Rattle.text.specs.Ranges.{pick}
+use Rattle.text.specs.Sector.{bytesOf, largest, sectorSize}
+use Rattle.text.specs.declared.sector.Sectors.{Sectors}
+use Rattle.descriptor.specs.Record.{most, filled, counted, noExtent, refusal}
+use Rattle.descriptor.specs.declared.record.Record.{Record}
+use Rattle.descriptor.specs.declared.record.Verdict.the-variants.{Sound}
+use Rattle.descriptor.specs.declared.record.VmdkParsedExtent.{VmdkParsedExtent}
+use Rattle.descriptor.specs.declared.record.VmdkParsedStorage.{VmdkParsedStorage}
+use Rattle.descriptor.specs.declared.record.VmdkParsedStorage.the-variants.{NoAccess, Zero, Flat}
+use Rattle.extents.specs.declared.table.Source.{Source}
+use Rattle.extents.specs.declared.table.Row.{Row}
+use Rattle.extents.specs.declared.table.Table.{Table}
+use Rattle.extents.specs.declared.table.Built.{Built}
+use Rattle.extents.specs.Build.{noRow, tableOf, Rows, rows, refused, inBytes, inSource, before, rowsFrom, built, buildOf}
+use Rattle.extents.specs.Place.{bytesIn, sizeOf}
+use Rattle.theorems.specs.Rows.{Builds, sourceOf}
+use Rattle.theorems.proofs.Tests.{by-test}
+
+-- the row of an extent that starts at a place of the disk
+abbrev pub rowOf : ℕ → VmdkParsedExtent → Row
+rowOf start x = record { start = record { 0 = start }; end = record { 0 = start + bytesIn x }; source = sourceOf (x .storage) }
+
+-- the rows of extents, one after the other
+unfoldable pub laid : ℕ → List VmdkParsedExtent → List Row
+laid start [] = []
+laid start (x ∷ xs) = rowOf start x ∷ laid (start + bytesIn x) xs
+
+never : {i n : ℕ} {rs : List Row} {size : ℕ} → refused n i ≡ rows rs size → ⊥
+never e = let z : _≡_ {A = ℕ} 0 1 = cc in omega arith
+
+-- what a refusal would have stopped has gone on
+module _ (else : Rows) (rs : List Row) (size : ℕ) (off : else ≡ rows rs size → ⊥) where
+  in-bytes : (s : Sectors) (go : ℕ → Rows) → inBytes (bytesOf s) else go ≡ rows rs size → go (s .0 * sectorSize) ≡ rows rs size
+  unfolding bytesOf
+  in-bytes s go h = by-test (leb (s .0 * sectorSize) largest) (λ e. rw e at h) (λ e. absurd (off (rw e at h)))
+
+  in-test : (b : Bool) (go : Rows) → pick b go else ≡ rows rs size → go ≡ rows rs size
+  in-test true go h = h
+  in-test false go h = absurd (off h)
+
+  in-source : (st : VmdkParsedStorage) (go : Source → Rows) → inSource st else go ≡ rows rs size → go (sourceOf st) ≡ rows rs size
+  in-source NoAccess go h = h
+  in-source (Zero a) go h = h
+  in-source (Flat a name start) go h = in-bytes start _ h
+
+in-front : (r : Row) (more : Rows) (rs : List Row) (size : ℕ) → before r more ≡ rows rs size → (rs′ : List Row) × (more ≡ rows rs′ size) × (rs ≡ r ∷ rs′)
+in-front r (rows rs′ n) rs size h = (rs′, cc, cc)
+in-front r (refused n i) rs size h = absurd (never h)
+
+pub rows-laid : (i start : ℕ) (xs : List VmdkParsedExtent) (rs : List Row) (size : ℕ) → rowsFrom i start xs ≡ rows rs size → (rs ≡ laid start xs) × (size ≡ start + sizeOf xs)
+unfolding rowsFrom laid sizeOf
+rows-laid i start [] rs size h =
+    let a : [] ≡ rs = cc in
+    let b : start ≡ size = cc in
+    (sym a, omega arith)
+rows-laid i start (x ∷ xs) rs size h =
+    let h₁ = in-bytes (refused 18 i) rs size never (x .sectors) _ h in
+    let h₂ = in-test (refused 19 i) rs size never (leb (start + bytesIn x) largest) _ h₁ in
+    let h₃ = in-source (refused 20 i) rs size never (x .storage) _ h₂ in
+    let f = in-front (rowOf start x) (rowsFrom (suc i) (start + bytesIn x) xs) rs size h₃ in
+    let g = rows-laid (suc i) (start + bytesIn x) xs (f .0) size (f .1) in
+    (f .2 ∙ rw (g .0), omega arith)
+
+built-rows : (got : Rows) (t : Table) → built got ≡ record { verdict = Sound; table = t } → (rs : List Row) × (size : ℕ) × (got ≡ rows rs size) × (t ≡ tableOf rs size)
+built-rows (rows rs size) t h = (rs, size, refl, sym (ap (λ (b : Built). b .table) h))
+built-rows (refused n i) t h =
+    let v : refusal n i ≡ Sound = ap (λ (b : Built). b .verdict) h in let z : _≡_ {A = ℕ} 0 1 = cc in absurd (omega arith)
+
+counted-short : (r : Record) → r .count ≤ most → length (counted r) ≤ most
+unfolding counted
+counted-short r h = omega (arith, length-take (r .count) (r .extents))
+
+-- the table of some extents
+abbrev pub tableIn : List VmdkParsedExtent → Table
+tableIn xs = tableOf (laid 0 xs) (sizeOf xs)
+
+rows-table : (xs : List VmdkParsedExtent) (rs : List Row) (size : ℕ) (t : Table) → rowsFrom 0 0 xs ≡ rows rs size → t ≡ tableOf rs size → t ≡ tableIn xs
+rows-table xs rs size t h e =
+    let g = rows-laid 0 0 xs rs size h in
+    let s : size ≡ sizeOf xs = omega arith in
+    rw (e, g .0, s)
+
+-- a built table is the table of its extents' rows
+pub table-laid : (r : Record) (t : Table) → Builds r t → (t ≡ tableIn (counted r)) × (length (counted r) ≤ most)
+unfolding buildOf
+table-laid r t h =
+    by-test (leb (r .count) most)
+    (λ e. let b = built-rows (rowsFrom 0 0 (counted r)) t (rw e at h) in
+    (rows-table (counted r) (b .0) (b .1) t (b .2) (b .3), counted-short r (leb-true (r .count) most e)))
+    (λ e. let b = built-rows (refused 23 0) t (rw e at h) in absurd (never (b .2)))
+
+pub length-laid : (start : ℕ) (xs : List VmdkParsedExtent) → length (laid start xs) ≡ length xs
+unfolding laid
+length-laid start [] = refl
+length-laid start (x ∷ xs) = ap suc (length-laid (start + bytesIn x) xs)
+
+-- row i starts at the sum of the sizes before it
+pub row-laid : (start : ℕ) (xs : List VmdkParsedExtent) (i : ℕ) → i < length xs → getD (laid start xs) i noRow ≡ rowOf (start + sizeOf (take i xs)) (getD xs i noExtent)
+unfolding laid sizeOf
+row-laid start [] i h = absurd (omega arith)
+row-laid start (x ∷ xs) zero h = let e : start + 0 ≡ start = omega arith in rw e
+row-laid start (x ∷ xs) (suc i) h =
+    let e : start + bytesIn x + sizeOf (take i xs) ≡ start + (bytesIn x + sizeOf (take i xs)) = omega arith in
+    row-laid (start + bytesIn x) xs i (omega arith) ∙ rw e
+
+-- the places past a list's end are `none`, so it reads the same with them
+pub filled-at : {A : Type 0} (none : A) (l : List A) (i : ℕ) → getD (filled none l) i none ≡ getD l i none
+unfolding filled
+filled-at none l i = go l i (most - length l)
+  where
+    rest : (i n : ℕ) → getD (replicate n none) i none ≡ none
+    rest i zero = refl
+    rest zero (suc n) = refl
+    rest (suc i) (suc n) = rest i n
+
+    go : (l : List _) (i n : ℕ) → getD (l ++ replicate n none) i none ≡ getD l i none
+    go [] i n = rest i n
+    go (x ∷ l) zero n = refl
+    go (x ∷ l) (suc i) n = go l i n
+
+-- the sum of the first sizes, one more, and all
+pub size-next : (xs : List VmdkParsedExtent) (i : ℕ) → i < length xs → sizeOf (take (suc i) xs) ≡ sizeOf (take i xs) + bytesIn (getD xs i noExtent)
+unfolding sizeOf
+size-next [] i h = absurd (omega arith)
+size-next (x ∷ xs) zero h = omega arith
+size-next (x ∷ xs) (suc i) h = omega (arith, size-next xs i (omega arith))
+
+pub size-grows : (xs : List VmdkParsedExtent) (i j : ℕ) → i ≤ j → sizeOf (take i xs) ≤ sizeOf (take j xs)
+unfolding sizeOf
+size-grows xs zero j h = omega arith
+size-grows xs (suc i) zero h = absurd (omega arith)
+size-grows [] (suc i) (suc j) h = omega arith
+size-grows (x ∷ xs) (suc i) (suc j) h = omega (arith, size-grows xs i j (omega arith))
+
+pub size-all : (xs : List VmdkParsedExtent) (i : ℕ) → length xs ≤ i → sizeOf (take i xs) ≡ sizeOf xs
+size-all xs i h = ap sizeOf (take-all i xs h)

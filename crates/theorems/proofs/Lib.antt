@@ -1,0 +1,17 @@
+pub mod Tests
+pub mod Built
+pub mod Places
+pub mod Rows
+pub mod Halving
+pub mod Maps
+pub mod Routes
+pub mod Tiles
+pub mod Least
+pub mod Limits
+pub mod Shared
+pub mod Tiling
+pub mod Joins
+pub mod Enough
+pub mod Continuing
+pub mod Marked
+pub mod Theorems

@@ -1,0 +1,125 @@
+-- The marked cases of document 01 that speak of building, mapping and the walk, and more beside them, as one table: what is asked, and what is due.
+use Prim.Native.Nat.{ℕ}
+use mathlib.Core.List.{List, [], _∷_}
+use mathlib.Core.Bool.{true, false}
+use Rattle.descriptor.specs.Record.{noText, noExtent, noDesc, filled, recordOf, refusal}
+use Rattle.descriptor.specs.declared.record.Record.{Record}
+use Rattle.descriptor.specs.declared.record.Verdict.{Verdict}
+use Rattle.descriptor.specs.declared.record.Verdict.the-variants.{Sound}
+use Rattle.descriptor.specs.declared.record.VmdkAccessType.the-variants.{RW, RdOnly}
+use Rattle.descriptor.specs.declared.record.VmdkParsedExtent.{VmdkParsedExtent}
+use Rattle.descriptor.specs.declared.record.VmdkParsedStorage.{VmdkParsedStorage}
+use Rattle.descriptor.specs.declared.record.VmdkParsedStorage.the-variants.{NoAccess, Zero, Flat}
+use Rattle.extents.specs.declared.table.Table.{Table}
+use Rattle.extents.specs.declared.table.Mapping.{Mapping}
+use Rattle.extents.specs.declared.table.ShallowMapping.{ShallowMapping}
+use Rattle.extents.specs.declared.table.ShallowMapping.the-variants.{Eof, Zero as Zeros, Raw, Refused}
+use Rattle.extents.specs.declared.table.Stop.{Stop}
+use Rattle.extents.specs.declared.table.Stop.the-variants.{Done, Refused as Stopped}
+use Rattle.extents.specs.declared.table.Piece.{Piece}
+use Rattle.extents.specs.Build.{noRow, buildOf}
+use Rattle.extents.specs.Map.{mapOf}
+use Rattle.extents.specs.Walk.{Walk, zeroPiece, rawPiece, walkOf}
+use Rattle.theorems.specs.Maps.{restOf}
+use Rattle.theorems.specs.Tiling.{metBy, noAccessFrom}
+
+-- an answer
+pub data Answer : Type 0 where
+  building : Verdict → Answer
+  mapping : Mapping → Answer
+  walking : Walk → Answer
+  number : ℕ → Answer
+  numbers : List ℕ → Answer
+
+-- a case: what is asked, and what is due
+pub record Case : Type 0 where
+  pub got : Answer
+  pub due : Answer
+
+abbrev is : Answer → Answer → Case
+is got due = record { got = got; due = due }
+
+-- an extent of some sectors
+abbrev extent : ℕ → VmdkParsedStorage → VmdkParsedExtent
+extent n st = record { sectors = record { 0 = n }; storage = st }
+
+-- the table of some extents
+abbrev tableBy : List VmdkParsedExtent → Table
+tableBy xs = buildOf (recordOf noDesc xs) .table
+
+abbrev builds : List VmdkParsedExtent → Verdict → Case
+builds xs due = is (building (buildOf (recordOf noDesc xs) .verdict)) (building due)
+
+abbrev maps : Table → ℕ → ℕ → ShallowMapping → ℕ → ℕ → Case
+maps t o asked m run looked = is (mapping (mapOf t o asked)) (mapping (record { mapping = m; run = run; looked = looked }))
+
+-- a walk with 128 places
+abbrev walks : Table → ℕ → ℕ → List Piece → Stop → ℕ → ℕ → Case
+walks t start long pieces stop position looked =
+    is (walking (walkOf t 128 start long)) (walking (record { pieces = pieces; stop = stop; position = position; looked = looked }))
+
+-- the report's extents: RW 4 FLAT "reel a.vmdk" 2, RDONLY 0 ZERO, NOACCESS 1, RDONLY 3 ZERO
+abbrev reel : List VmdkParsedExtent
+reel =
+    extent 4 (Flat RW (record { place = 56; length = 11 }) (record { 0 = 2 }))
+    ∷ extent 0 (Zero RdOnly)
+    ∷ extent 1 NoAccess
+    ∷ extent 3 (Zero RdOnly)
+    ∷ []
+
+-- one flat extent that starts in the last sector that can be told
+abbrev far : ℕ → List VmdkParsedExtent
+far n = extent n (Flat RW noText (record { 0 = 36028797018963967 })) ∷ []
+
+-- a record, and a table, with a count above 128
+abbrev full : Record
+full = record { desc = noDesc; count = 129; extents = filled noExtent [] }
+
+abbrev fullTable : Table
+fullTable = record { size = record { 0 = 4096 }; count = 129; rows = filled noRow [] }
+
+unfoldable pub cases : List Case
+cases =
+    -- K1 to K6
+    maps (tableBy reel) 0 100 (Raw 0 1024 true) 100 3
+    ∷ maps (tableBy reel) 2047 100 (Raw 0 3071 true) 1 3
+    ∷ maps (tableBy reel) 2048 10 (Refused 21) 0 1
+    ∷ maps (tableBy reel) 2560 0 (Zeros 3) 0 2
+    ∷ maps (tableBy reel) 4096 1 Eof 0 0
+    ∷ walks (tableBy reel) 2560 5000 (zeroPiece 2560 1536 3 ∷ []) Done 4096 2
+    -- K9: 18; one less builds
+    ∷ builds (extent 36028797018963968 (Zero RW) ∷ []) (refusal 18 0)
+    ∷ builds (extent 36028797018963967 (Zero RW) ∷ []) Sound
+    -- K10
+    ∷ builds (extent 36028797018963967 (Zero RW) ∷ extent 1 (Zero RW) ∷ []) (refusal 19 1)
+    -- K11
+    ∷ maps (tableBy (far 2)) 0 1024 (Raw 0 18446744073709551104 true) 1024 1
+    ∷ maps (tableBy (far 2)) 512 1 (Refused 22) 0 1
+    -- writable exactly for RW, and zeros never
+    ∷ maps (tableBy (extent 1 (Flat RdOnly noText (record { 0 = 3 })) ∷ [])) 5 9 (Raw 0 1541 false) 9 1
+    ∷ walks (tableBy (extent 1 (Zero RW) ∷ extent 1 (Flat RdOnly noText (record { 0 = 3 })) ∷ [])) 0 1024 (zeroPiece 0 512 0 ∷ rawPiece 512 512 1 1536 false ∷ []) Done 1024 3
+    -- demand 3's premise exactly met
+    ∷ walks (tableBy (far 1)) 0 600 (rawPiece 0 512 0 18446744073709551104 true ∷ []) Done 512 1
+    -- a start past the size
+    ∷ walks (tableBy reel) 5000 10 [] Done 5000 0
+    -- a start in a no-access row, and length 0 there
+    ∷ walks (tableBy reel) 2048 10 [] (Stopped 21) 2048 1
+    ∷ walks (tableBy reel) 2048 0 [] Done 2048 0
+    -- a range that ends where no access begins, and one byte more
+    ∷ walks (tableBy reel) 0 2048 (rawPiece 0 2048 0 1024 true ∷ []) Done 2048 3
+    ∷ walks (tableBy reel) 0 2049 (rawPiece 0 2048 0 1024 true ∷ []) (Stopped 21) 2048 4
+    -- a disk of size 0
+    ∷ maps (tableBy []) 0 1 Eof 0 0
+    ∷ walks (tableBy []) 0 10 [] Done 0 0
+    -- 20, and 23 from a hand-made record and table
+    ∷ builds (extent 1 (Flat RW noText (record { 0 = 36028797018963968 })) ∷ []) (refusal 20 0)
+    ∷ is (building (buildOf full .verdict)) (building (refusal 23 0))
+    ∷ maps fullTable 0 1 (Refused 23) 0 0
+    ∷ walks fullTable 7 0 [] (Stopped 23) 7 0
+    -- the words of demand 3: what is left of an extent, the first no-access byte, and the extents met
+    ∷ is (number (restOf reel 2047)) (number 1)
+    ∷ is (number (noAccessFrom reel 2000)) (number 2048)
+    ∷ is (number (noAccessFrom reel 4000)) (number 4096)
+    ∷ is (numbers (metBy reel 0 2048)) (numbers (0 ∷ []))
+    ∷ is (numbers (metBy reel 0 4096)) (numbers (0 ∷ 3 ∷ []))
+    ∷ []
