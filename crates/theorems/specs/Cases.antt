@@ -1,8 +1,12 @@
--- The marked cases of document 01 that speak of building, mapping and the walk, and more beside them, as one table: what is asked, and what is due.
+-- The marked cases K1 to K12 of document 01, and more beside them, as one table: what is asked, and what is due.
 use Prim.Native.Nat.{ℕ}
-use mathlib.Core.List.{List, [], _∷_}
-use mathlib.Core.Bool.{true, false}
-use Rattle.descriptor.specs.Record.{noText, noExtent, noDesc, filled, recordOf, refusal}
+use Prim.Native.String.{String}
+use mathlib.Core.List.{List, [], _∷_, _++_}
+use mathlib.Core.Bool.{Bool, true, false}
+use Rattle.descriptor.specs.Key.{ascii}
+use Rattle.descriptor.specs.Probe.{probeOf}
+use Rattle.descriptor.specs.Read.{readOf}
+use Rattle.descriptor.specs.Record.{noText, noExtent, noDesc, descOf, filled, recordOf, refusal}
 use Rattle.descriptor.specs.declared.record.Record.{Record}
 use Rattle.descriptor.specs.declared.record.Verdict.{Verdict}
 use Rattle.descriptor.specs.declared.record.Verdict.the-variants.{Sound}
@@ -25,6 +29,9 @@ use Rattle.theorems.specs.Tiling.{metBy, noAccessFrom}
 
 -- an answer
 pub data Answer : Type 0 where
+  probing : Bool → Answer
+  reading : Verdict → Answer
+  holding : Record → Answer
   building : Verdict → Answer
   mapping : Mapping → Answer
   walking : Walk → Answer
@@ -43,6 +50,27 @@ is got due = record { got = got; due = due }
 abbrev extent : ℕ → VmdkParsedStorage → VmdkParsedExtent
 extent n st = record { sectors = record { 0 = n }; storage = st }
 
+-- the lines of a descriptor, each ended by 0A
+abbrev lines : List String → List ℕ
+lines [] = []
+lines (l ∷ ls) = ascii l ++ (0x0A ∷ lines ls)
+
+abbrev probes : List String → Bool → Case
+probes ls due = is (probing (probeOf (lines ls))) (probing due)
+
+abbrev reads : List String → Verdict → Case
+reads ls due = is (reading (readOf (lines ls) .verdict)) (reading due)
+
+-- the record and the table of a descriptor
+abbrev recordIn : List String → Record
+recordIn ls = readOf (lines ls) .descriptor
+
+abbrev buildsFrom : List String → Verdict → Case
+buildsFrom ls due = is (building (buildOf (recordIn ls) .verdict)) (building due)
+
+abbrev tableIn : List String → Table
+tableIn ls = buildOf (recordIn ls) .table
+
 -- the table of some extents
 abbrev tableBy : List VmdkParsedExtent → Table
 tableBy xs = buildOf (recordOf noDesc xs) .table
@@ -58,7 +86,19 @@ abbrev walks : Table → ℕ → ℕ → List Piece → Stop → ℕ → ℕ →
 walks t start long pieces stop position looked =
     is (walking (walkOf t 128 start long)) (walking (record { pieces = pieces; stop = stop; position = position; looked = looked }))
 
--- the report's extents: RW 4 FLAT "reel a.vmdk" 2, RDONLY 0 ZERO, NOACCESS 1, RDONLY 3 ZERO
+-- the report's descriptor
+abbrev report : List String
+report =
+    "# Disk DescriptorFile"
+    ∷ "version=1"
+    ∷ "CID=fffffffe"
+    ∷ "RW 4 FLAT \"reel a.vmdk\" 2"
+    ∷ "RDONLY 0 ZERO"
+    ∷ "NOACCESS 1"
+    ∷ "RDONLY 3 ZERO"
+    ∷ []
+
+-- its extents
 abbrev reel : List VmdkParsedExtent
 reel =
     extent 4 (Flat RW (record { place = 56; length = 11 }) (record { 0 = 2 }))
@@ -80,21 +120,36 @@ fullTable = record { size = record { 0 = 4096 }; count = 129; rows = filled noRo
 
 unfoldable pub cases : List Case
 cases =
-    -- K1 to K6
-    maps (tableBy reel) 0 100 (Raw 0 1024 true) 100 3
-    ∷ maps (tableBy reel) 2047 100 (Raw 0 3071 true) 1 3
-    ∷ maps (tableBy reel) 2048 10 (Refused 21) 0 1
-    ∷ maps (tableBy reel) 2560 0 (Zeros 3) 0 2
-    ∷ maps (tableBy reel) 4096 1 Eof 0 0
-    ∷ walks (tableBy reel) 2560 5000 (zeroPiece 2560 1536 3 ∷ []) Done 4096 2
+    -- the report: what reading its descriptor gives
+    probes report true
+    ∷ reads report Sound
+    ∷ is (holding (recordIn report)) (holding (recordOf (descOf 1 (record { place = 36; length = 8 }) noText noText 0 0 0) reel))
+    -- K1 to K6, on its table
+    ∷ maps (tableIn report) 0 100 (Raw 0 1024 true) 100 3
+    ∷ maps (tableIn report) 2047 100 (Raw 0 3071 true) 1 3
+    ∷ maps (tableIn report) 2048 10 (Refused 21) 0 1
+    ∷ maps (tableIn report) 2560 0 (Zeros 3) 0 2
+    ∷ maps (tableIn report) 4096 1 Eof 0 0
+    ∷ walks (tableIn report) 2560 5000 (zeroPiece 2560 1536 3 ∷ []) Done 4096 2
+    -- K7: probe no, reads
+    ∷ probes ("version=9" ∷ "version=1" ∷ []) false
+    ∷ reads ("version=9" ∷ "version=1" ∷ []) Sound
+    -- K8: probe yes, 17
+    ∷ probes ("version=1" ∷ "version=9" ∷ []) true
+    ∷ reads ("version=1" ∷ "version=9" ∷ []) (refusal 17 0)
     -- K9: 18; one less builds
+    ∷ reads ("version=1" ∷ "RW 36028797018963968 ZERO" ∷ []) (refusal 18 0)
     ∷ builds (extent 36028797018963968 (Zero RW) ∷ []) (refusal 18 0)
-    ∷ builds (extent 36028797018963967 (Zero RW) ∷ []) Sound
-    -- K10
+    ∷ reads ("version=1" ∷ "RW 36028797018963967 ZERO" ∷ []) Sound
+    ∷ buildsFrom ("version=1" ∷ "RW 36028797018963967 ZERO" ∷ []) Sound
+    -- K10: 19, extent 1
+    ∷ reads ("version=1" ∷ "RW 36028797018963967 ZERO" ∷ "RW 1 ZERO" ∷ []) (refusal 19 1)
     ∷ builds (extent 36028797018963967 (Zero RW) ∷ extent 1 (Zero RW) ∷ []) (refusal 19 1)
-    -- K11
-    ∷ maps (tableBy (far 2)) 0 1024 (Raw 0 18446744073709551104 true) 1024 1
-    ∷ maps (tableBy (far 2)) 512 1 (Refused 22) 0 1
+    -- K11: the last sector of a file, and one past it
+    ∷ maps (tableIn ("version=1" ∷ "RW 2 FLAT \"x\" 36028797018963967" ∷ [])) 0 1024 (Raw 0 18446744073709551104 true) 1024 1
+    ∷ maps (tableIn ("version=1" ∷ "RW 2 FLAT \"x\" 36028797018963967" ∷ [])) 512 1 (Refused 22) 0 1
+    -- K12: 10, in line 2
+    ∷ reads ("version=1" ∷ "RW 5 FLAT x \"a\"" ∷ []) (refusal 10 2)
     -- writable exactly for RW, and zeros never
     ∷ maps (tableBy (extent 1 (Flat RdOnly noText (record { 0 = 3 })) ∷ [])) 5 9 (Raw 0 1541 false) 9 1
     ∷ walks (tableBy (extent 1 (Zero RW) ∷ extent 1 (Flat RdOnly noText (record { 0 = 3 })) ∷ [])) 0 1024 (zeroPiece 0 512 0 ∷ rawPiece 512 512 1 1536 false ∷ []) Done 1024 3
