@@ -34,8 +34,6 @@ module _ (end o : ℕ) where
   pub past-not : o < end → _≡_ {A = ℕ} 0 (pick (leb end o) 1 0)
   past-not h = rw (lt-leb _ _ h)
 
-pub ruleset pasts = (past-yes, past-not, needs)
-
 module _ (code : ℕ) where
   pub unpack-found : 0 < code % 4096 → hitOf (found (code % 4096 - 1) (code / 4096)) ≡ unpackOf code
   unfolding unpackOf

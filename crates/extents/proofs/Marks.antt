@@ -23,7 +23,7 @@ use Rattle.extents.specs.declared.stepping.Mark.{Mark}
 use Rattle.extents.specs.Map.{mapOf}
 use Rattle.extents.specs.Walk.{Walk, ends, then, zeroPiece, rawPiece, step, unlessOver, walkFrom, walkOf, walked, listed}
 use Rattle.extents.specs.Halving.{headOf}
-use Rattle.extents.specs.Stepping.{halted, going, standOf, beginOf, afterOf, endMark, pieceMark, byMapping, markOf, mapAt, finishOf}
+use Rattle.extents.specs.Stepping.{overOf, halted, going, standOf, beginOf, afterOf, endMark, pieceMark, byMapping, markOf, mapAt, finishOf}
 use Rattle.extents.proofs.Halves.{pick-elim, by-test}
 use Rattle.extents.proofs.Runs.{map-modest}
 
@@ -90,26 +90,33 @@ module _ (t : Table) (pos left : ℕ) where
 -- where a walk stands, by the same cases
 module _ (size room at pos left k : ℕ) where
   stand-nothing : eqb left 0 ≡ true → standOf size room at pos left k ≡ halted Done at pos left k
-  unfolding standOf
+  unfolding standOf overOf
   stand-nothing e = rw e
 
   stand-past : eqb left 0 ≡ false → leb size pos ≡ true → standOf size room at pos left k ≡ halted Done at pos left k
-  unfolding standOf
+  unfolding standOf overOf
   stand-past e h = rw (e, h)
 
   stand-going : eqb left 0 ≡ false → leb size pos ≡ false → standOf size room at pos left k ≡ going (ltb at room) at pos left k
-  unfolding standOf
+  unfolding standOf overOf
   stand-going e h = rw (e, h)
 
-  -- the same count of pieces and of rows, and there is room where it goes on
-  abbrev Stands : Stand → Type 0
-  Stands s = (s .at ≡ at) × ((s .looked ≡ k) × (s .go ≡ true → at < room))
+-- a stand with so many pieces and rows, which goes on only where there is room
+abbrev Stands : ℕ → ℕ → ℕ → Stand → Type 0
+Stands room at k s = (s .at ≡ at) × ((s .looked ≡ k) × (s .go ≡ true → at < room))
 
-  pub stand-stands : Stands (standOf size room at pos left k)
-  unfolding standOf
-  stand-stands =
-      pick-elim Stands (eqb left 0) (halted Done at pos left k) (pick (leb size pos) (halted Done at pos left k) (going (ltb at room) at pos left k)) (λ _. (refl, (refl, λ e. absurd (true≢false (sym e)))))
-      (λ _. pick-elim Stands (leb size pos) (halted Done at pos left k) (going (ltb at room) at pos left k) (λ _. (refl, (refl, λ e. absurd (true≢false (sym e))))) (λ _. (refl, (refl, λ e. ltb-true at room e))))
+halted-stands : (room at k : ℕ) (stop : Stop) (pos left : ℕ) → Stands room at k (halted stop at pos left k)
+halted-stands room at k stop pos left = (refl, (refl, λ e. absurd (true≢false (sym e))))
+
+pub stand-stands : (size room at pos left k : ℕ) → Stands room at k (standOf size room at pos left k)
+unfolding standOf
+stand-stands size room at pos left k =
+    pick-elim (Stands room at k) (overOf size pos left) (halted Done at pos left k) (going (ltb at room) at pos left k) (λ _. halted-stands room at k Done pos left) (λ _. (refl, (refl, λ e. ltb-true at room e)))
+
+pub begin-stands : (t : Table) (room pos left : ℕ) → Stands room 0 0 (beginOf (headOf t) room pos left)
+unfolding beginOf
+begin-stands t room pos left =
+    pick-elim (Stands room 0 0) (leb (t .count) most) (standOf (t .size .0) room 0 pos left 0) (halted (Stopped 23) 0 pos left 0) (λ _. stand-stands (t .size .0) room 0 pos left 0) (λ _. halted-stands room 0 0 (Stopped 23) pos left)
 
 -- a step that ends the walk, and a step that makes a piece
 module _ (t : Table) (room : ℕ) (zs : List Piece) where
@@ -297,10 +304,8 @@ pub record Sound (room : ℕ) (m : Mark) : Type 0 where
   pub less : m .more ≡ true → m .at < room
   pub few : m .looked ≤ 128 * m .at + 128
 
-pub step-sound : (t : Table) (size room at pos left k : ℕ) → at ≤ 128 → k ≤ 128 * at → Sound room (mapAt t (standOf size room at pos left k))
-step-sound t size room at pos left k a h =
-    let s : Stand = standOf size room at pos left k in
-    let st = stand-stands size room at pos left k in
+sound-from : (t : Table) (room at k : ℕ) (s : Stand) → Stands room at k s → at ≤ 128 → k ≤ 128 * at → Sound room (mapAt t s)
+sound-from t room at k s st a h =
     let f = map-follows t s in
     record {
       some = omega (arith, st .0, f .0);
@@ -308,18 +313,8 @@ step-sound t size room at pos left k a h =
       few = omega (arith, st .0, st .1 .0, f .0, f .1 .1);
     }
 
-pub begin-stands : (t : Table) (room pos left : ℕ) → (beginOf (headOf t) room pos left .at ≡ 0) × ((beginOf (headOf t) room pos left .looked ≡ 0) × (beginOf (headOf t) room pos left .go ≡ true → 0 < room))
-unfolding beginOf
-begin-stands t room pos left =
-    pick-elim (Stands (t .size .0) room 0 pos left 0) (leb (t .count) most) (standOf (t .size .0) room 0 pos left 0) (halted (Stopped 23) 0 pos left 0) (λ _. stand-stands (t .size .0) room 0 pos left 0) (λ _. (refl, (refl, λ e. absurd (true≢false (sym e)))))
+pub step-sound : (t : Table) (size room at pos left k : ℕ) → at ≤ 128 → k ≤ 128 * at → Sound room (mapAt t (standOf size room at pos left k))
+step-sound t size room at pos left k = sound-from t room at k (standOf size room at pos left k) (stand-stands size room at pos left k)
 
 pub begin-sound : (t : Table) (room pos left : ℕ) → Sound room (mapAt t (beginOf (headOf t) room pos left))
-begin-sound t room pos left =
-    let s : Stand = beginOf (headOf t) room pos left in
-    let st = begin-stands t room pos left in
-    let f = map-follows t s in
-    record {
-      some = omega (arith, st .0, f .0);
-      less = λ e. subst (λ (j : ℕ). j < room) (sym (f .0 ∙ st .0)) (st .1 .1 (f .1 .0 e));
-      few = omega (arith, st .0, st .1 .0, f .0, f .1 .1);
-    }
+begin-sound t room pos left = sound-from t room 0 0 (beginOf (headOf t) room pos left) (begin-stands t room pos left) (omega arith) (omega arith)

@@ -2,8 +2,8 @@
 -- Assumes nothing.
 use Prim.Native.Nat.{ℕ, _+_, _≤_, _<_, _^_}
 use mathlib.Core.Path.{_≡_}
-use mathlib.Core.Bool.{Bool, false}
-use lib.Dec.{ltb}
+use mathlib.Core.Bool.{Bool, true, false}
+use lib.Dec.{leb, ltb}
 use mir.Syntax.{w64}
 use mir.Val.{Fits}
 use borrow.Author.Tests.{eq-eqb, ne-eqb, le-leb, lt-leb}
@@ -17,22 +17,29 @@ use Rattle.extents.specs.declared.halving.Heading.{Heading}
 use Rattle.extents.specs.declared.stepping.Stand.{Stand}
 use Rattle.extents.specs.declared.stepping.Mark.{Mark}
 use Rattle.extents.specs.Walk.{zeroPiece, rawPiece}
-use Rattle.extents.specs.Stepping.{noPiece, halted, going, standOf, beginOf, endMark, pieceMark, Meant, markOf}
+use Rattle.extents.specs.Stepping.{noPiece, overOf, halted, going, standOf, beginOf, endMark, pieceMark, Meant, markOf}
 
-module _ (size room at pos left k : ℕ) where
-  pub stand-nothing : {r : Stand} → left ≡ 0 → r ≡ halted Done at pos left k → r ≡ standOf size room at pos left k
+module _ (size pos left : ℕ) where
+  pub over-nothing : left ≡ 0 → true ≡ overOf size pos left
+  unfolding overOf
+  over-nothing e = rw (eq-eqb _ _ e)
+
+  pub over-past : (left ≡ 0 → ⊥) → leb size pos ≡ overOf size pos left
+  unfolding overOf
+  over-past e = rw (ne-eqb _ _ e)
+
+pub ruleset overs = (over-nothing, over-past, needs)
+
+module _ (size room at pos left k : ℕ) {o : Bool} (e : o ≡ overOf size pos left) where
+  pub stand-over : {r : Stand} → o ≡ true → r ≡ halted Done at pos left k → r ≡ standOf size room at pos left k
   unfolding standOf
-  stand-nothing e q = rw (q, eq-eqb _ _ e)
+  stand-over h q = rw (← e, h, q)
 
-  pub stand-past : {r : Stand} → (left ≡ 0 → ⊥) → size ≤ pos → r ≡ halted Done at pos left k → r ≡ standOf size room at pos left k
+  pub stand-room : o ≡ false → going (ltb at room) at pos left k ≡ standOf size room at pos left k
   unfolding standOf
-  stand-past e h q = rw (q, ne-eqb _ _ e, le-leb _ _ h)
+  stand-room h = rw (← e, h)
 
-  pub stand-room : (left ≡ 0 → ⊥) → pos < size → going (ltb at room) at pos left k ≡ standOf size room at pos left k
-  unfolding standOf
-  stand-room e h = rw (ne-eqb _ _ e, lt-leb _ _ h)
-
-pub ruleset stands = (stand-nothing, stand-past, stand-room, needs)
+pub ruleset stands = (stand-over, stand-room, needs)
 
 module _ (h : Heading) (room pos left : ℕ) {r : Stand} where
   pub begin-many : 128 < h .count → r ≡ halted (Stopped 23) 0 pos left 0 → r ≡ beginOf h room pos left

@@ -30,9 +30,13 @@ halted s at pos left k = record { go = false; at = at; pos = pos; left = left; l
 abbrev pub going : Bool → ℕ → ℕ → ℕ → ℕ → Stand
 going g at pos left k = record { go = g; at = at; pos = pos; left = left; looked = k; stop = More }
 
+-- nothing is left, or the position is at or past the size
+unfoldable pub overOf : ℕ → ℕ → ℕ → Bool
+overOf size pos left = pick (eqb left 0) true (leb size pos)
+
 -- before a step
 unfoldable pub standOf : ℕ → ℕ → ℕ → ℕ → ℕ → ℕ → Stand
-standOf size room at pos left k = pick (eqb left 0) (halted Done at pos left k) (pick (leb size pos) (halted Done at pos left k) (going (ltb at room) at pos left k))
+standOf size room at pos left k = pick (overOf size pos left) (halted Done at pos left k) (going (ltb at room) at pos left k)
 
 -- before the first step
 unfoldable pub beginOf : Heading → ℕ → ℕ → ℕ → Stand

@@ -17,13 +17,12 @@ ghost use Rattle.extents.specs.Halving.{spanOf, Held, answerOf};
 fn span(h: Heading, offset: u64) -> usize
     ensures { λ r. ⌜ r ≡ spanOf h offset ⌝ }
 {
-    if 128 < h.count {
-        return 0;
+    if h.count <= 128 {
+        if offset < h.size {
+            return h.count;
+        }
     }
-    if h.size <= offset {
-        return 0;
-    }
-    h.count
+    0
 }
 
 // A refusal: run 0.

@@ -14,7 +14,7 @@ ghost use Prim.Native.Nat.{_+_, _<_, _≤_, _^_, min};
 ghost use lib.ListN.{length as len, set};
 ghost use Rattle.descriptor.specs.Record.{most};
 ghost use Rattle.extents.specs.Walk.{zeroPiece, rawPiece, walkOf, walked, listed};
-ghost use Rattle.extents.specs.Stepping.{noPiece, halted, standOf, beginOf, afterOf, Ready, Meant, pieceMark, markOf, endMark, mapAt, finishOf};
+ghost use Rattle.extents.specs.Stepping.{noPiece, overOf, halted, standOf, beginOf, afterOf, Ready, Meant, pieceMark, markOf, endMark, mapAt, finishOf};
 
 // Where a walk stands before a step: whether to go on, and if not, why.
 pub struct Stand {
@@ -78,14 +78,22 @@ fn halt(stop: Stop, at: usize, pos: u64, left: u64, looked: usize) -> Stand
     }
 }
 
+// Whether nothing is left, or the position is at or past the size.
+fn is_over(size: u64, pos: u64, left: u64) -> bool
+    ensures { λ r. ⌜ r ≡ overOf size pos left ⌝ }
+{
+    if left == 0 {
+        return true;
+    }
+    size <= pos
+}
+
 // Before each step, in order: nothing left, Done; position at or past the size, Done; no room, More; otherwise on.
 fn stand_at(size: u64, room: usize, at: usize, pos: u64, left: u64, looked: usize) -> Stand
     ensures { λ r. ⌜ r ≡ standOf size room at pos left looked ⌝ }
 {
-    if left == 0 {
-        return halt(Stop::Done, at, pos, left, looked);
-    }
-    if size <= pos {
+    let over = is_over(size, pos, left);
+    if over {
         return halt(Stop::Done, at, pos, left, looked);
     }
     let stop = Stop::More;
@@ -118,18 +126,40 @@ fn after(h: Heading, room: usize, m: Mark) -> Stand
     stand_at(h.size, room, at + 1, m.pos, m.left, m.looked)
 }
 
+// A zero piece: its file offset is 0, and it is not writable.
+fn zero_piece(start: u64, run: u64, row: usize) -> Piece
+    ensures { λ r. ⌜ r ≡ zeroPiece start run row ⌝ }
+{
+    let source = PieceSource::Zero;
+    Piece {
+        start,
+        run,
+        source,
+        row,
+        file_offset: 0,
+        writable: false,
+    }
+}
+
 // A piece of nothing.
 pub fn no_piece() -> Piece
     ensures { λ r. ⌜ r ≡ noPiece ⌝ }
 {
-    let source = PieceSource::Zero;
+    zero_piece(0, 0, 0)
+}
+
+// A piece of a file.
+fn raw_piece(start: u64, run: u64, row: usize, file_offset: u64, writable: bool) -> Piece
+    ensures { λ r. ⌜ r ≡ rawPiece start run row «file_offset» writable ⌝ }
+{
+    let source = PieceSource::Raw;
     Piece {
-        start: 0,
-        run: 0,
+        start,
+        run,
         source,
-        row: 0,
-        file_offset: 0,
-        writable: false,
+        row,
+        file_offset,
+        writable,
     }
 }
 
@@ -154,46 +184,17 @@ fn one_more(piece: Piece, s: Stand, looked: usize) -> Mark
     requires { ⌜ (piece .run ≤ s .left) × (s .pos + piece .run < 2 ^ 64) ⌝ }
     ensures { λ r. ⌜ r ≡ pieceMark piece s looked ⌝ }
 {
+    let at = s.at;
     let run = piece.run;
     let stop = Stop::More;
     Mark {
         more: true,
-        at: s.at,
+        at,
         piece,
         pos: s.pos + run,
         left: s.left - run,
         looked,
         stop,
-    }
-}
-
-// A zero piece: its file offset is 0, and it is not writable.
-fn zero_piece(start: u64, run: u64, row: usize) -> Piece
-    ensures { λ r. ⌜ r ≡ zeroPiece start run row ⌝ }
-{
-    let source = PieceSource::Zero;
-    Piece {
-        start,
-        run,
-        source,
-        row,
-        file_offset: 0,
-        writable: false,
-    }
-}
-
-// A piece of a file.
-fn raw_piece(start: u64, run: u64, row: usize, file_offset: u64, writable: bool) -> Piece
-    ensures { λ r. ⌜ r ≡ rawPiece start run row «file_offset» writable ⌝ }
-{
-    let source = PieceSource::Raw;
-    Piece {
-        start,
-        run,
-        source,
-        row,
-        file_offset,
-        writable,
     }
 }
 

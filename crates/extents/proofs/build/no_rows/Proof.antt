@@ -1,3 +1,5 @@
+-- `extents::build::no_rows` meets its contract. 128 times the same row is the definition's empty list, filled up. Nothing else is there to show.
+-- Assumes nothing.
 use Rattle.extents.proofs.Builds.{blanks}
 use Rattle.extents.proofs.build.no_rows.Statement.{statement}
 use Rattle.extents.proofs.build.no_rows.Tie as tie

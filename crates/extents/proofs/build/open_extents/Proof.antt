@@ -1,3 +1,6 @@
+-- `extents::build::open_extents` meets its contract. The invariant: the rows so far, followed by what the definition makes of the extents still to come, are what it makes of all of them, and the rows past them are blank.
+-- The extents still to come become fewer.
+-- Assumes nothing.
 use Prim.Native.Nat.{_-_}
 use Rattle.extents.proofs.Builds.{Reached, extents-wide, reach-first, builds}
 use Rattle.extents.proofs.build.open_extents.Statement.{statement}

@@ -1,3 +1,5 @@
+-- `extents::build::open_file` meets its contract. The file start is turned into bytes by the sector's own function. Each of its answers is the definition's case.
+-- Assumes nothing.
 use Rattle.extents.proofs.Builds.{files}
 use Rattle.extents.proofs.build.open_file.Statement.{statement}
 use Rattle.extents.proofs.build.open_file.Tie as tie

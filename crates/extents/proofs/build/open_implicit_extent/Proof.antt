@@ -1,3 +1,5 @@
+-- `extents::build::open_implicit_extent` meets its contract. Size, sum and source are tested in the definition's order. The sum is tested by a subtraction, which cannot wrap.
+-- Assumes nothing.
 use Rattle.extents.proofs.Builds.{extents}
 use Rattle.extents.proofs.build.open_implicit_extent.Statement.{statement}
 use Rattle.extents.proofs.build.open_implicit_extent.Tie as tie

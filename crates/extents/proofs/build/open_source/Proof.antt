@@ -1,3 +1,5 @@
+-- `extents::build::open_source` meets its contract. One rule for each data source. A row's start and end are the caller's.
+-- Assumes nothing.
 use Rattle.extents.proofs.Builds.{opens}
 use Rattle.extents.proofs.build.open_source.Statement.{statement}
 use Rattle.extents.proofs.build.open_source.Tie as tie

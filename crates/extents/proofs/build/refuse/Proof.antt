@@ -1,3 +1,5 @@
+-- `extents::build::refuse` meets its contract. The rows of a refused build are blank. So its table is the definition's empty one.
+-- Assumes nothing.
 use Rattle.extents.proofs.Builds.{refusals}
 use Rattle.extents.proofs.build.refuse.Statement.{statement}
 use Rattle.extents.proofs.build.refuse.Tie as tie

@@ -1,3 +1,5 @@
+-- `extents::by_value::no_pieces` meets its contract. 128 times the piece of nothing is the definition's list. Nothing else is there to show.
+-- Assumes nothing.
 use Rattle.extents.proofs.Listings.{blanks}
 use Rattle.extents.proofs.by_value.no_pieces.Statement.{statement}
 use Rattle.extents.proofs.by_value.no_pieces.Tie as tie

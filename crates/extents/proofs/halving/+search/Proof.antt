@@ -1,4 +1,4 @@
--- `extents::search` meets its contract: it calls itself on the remaining window, so its proof is by a measure, the window's width. A walk of its MIR, by hand: the decisions are covered functions' (`middle`, `decide`, `no_hit`), and the table is lent on to `row_at` and to the call of itself.
+-- `extents::halving::search` meets its contract: it calls itself on the remaining window, so its proof is by a measure, the window's width. A walk of its MIR, by hand: the decisions are covered functions' (`middle`, `decide`, `no_hit`), and the table is lent on to `row_at` and to the call of itself.
 -- Assumes nothing.
 use mathlib.Core.Path.{_≡_, refl, sym, ap, subst}
 use Prim.Native.Nat.{ℕ, _<_, _≤_, _^_, _-_, _+_}

@@ -1,3 +1,5 @@
+-- `extents::halving::decide` meets its contract. The lower end is taken by an index, 0 or 1, and the upper end follows from it. Both are what the two cases of the definition give.
+-- Assumes nothing.
 use Rattle.extents.proofs.Mappings.{windows}
 use Rattle.extents.proofs.halving.decide.Statement.{statement}
 use Rattle.extents.proofs.halving.decide.Tie as tie

@@ -1,3 +1,5 @@
+-- `extents::halving::goes_on` meets its contract. An offset less the row's start, wrapped, is below the row's reach exactly where the row holds it. So one test answers for two.
+-- Assumes nothing.
 use Rattle.extents.proofs.Mappings.{goings}
 use Rattle.extents.proofs.halving.goes_on.Statement.{statement}
 use Rattle.extents.proofs.halving.goes_on.Tie as tie

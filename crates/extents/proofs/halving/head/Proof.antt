@@ -1,4 +1,4 @@
--- `extents::head` meets its contract: a walk of its MIR, by hand. The borrow of the table is looked into, two numbers are read, and the borrow is shut again.
+-- `extents::halving::head` meets its contract: a walk of its MIR, by hand. The borrow of the table is looked into, two numbers are read, and the borrow is shut again.
 -- Assumes nothing.
 use mathlib.Core.Path.{refl}
 use Prim.Native.Nat.{ℕ, _<_, _^_}

@@ -1,4 +1,4 @@
--- `extents::row_at` meets its contract: a walk of its MIR, by hand. The borrow of the table is looked into, one row is read out of the array within, and the borrow is shut again.
+-- `extents::halving::row_at` meets its contract: a walk of its MIR, by hand. The borrow of the table is looked into, one row is read out of the array within, and the borrow is shut again.
 -- Assumes nothing.
 use mathlib.Core.Path.{_≡_, refl, sym, _∙_, subst}
 use Prim.Native.Nat.{ℕ, _+_, _<_, _^_, _*_}

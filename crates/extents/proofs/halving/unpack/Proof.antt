@@ -1,3 +1,5 @@
+-- `extents::halving::unpack` meets its contract. The code takes the number apart as the definition does. Each way is the definition's case.
+-- Assumes nothing.
 use Rattle.extents.proofs.Mappings.{unpacks}
 use Rattle.extents.proofs.halving.unpack.Statement.{statement}
 use Rattle.extents.proofs.halving.unpack.Tie as tie

@@ -1,4 +1,7 @@
-use Rattle.extents.proofs.Mappings.{answers}
+-- `extents::mapping::answer` meets its contract. The tests are the definition's, in its order. A row that was found holds the offset, so that neither subtraction wraps.
+-- Assumes nothing.
+use native.Mathlib.Omega.{arith}
+use Rattle.extents.proofs.Mappings.{answer-many, answers}
 use Rattle.extents.proofs.mapping.answer.Statement.{statement}
 use Rattle.extents.proofs.mapping.answer.Tie as tie
 use Rattle.extents.proofs.mapping.answer.Reads as reads
@@ -13,7 +16,7 @@ answer-spec =
     tie.close
     (tie.spec
     (λ c κs. search answers)
-    (λ c. search answers)
+    (λ c. answer-many _ _ _ _ _ (omega arith) (c .refuse .ensures))
     (λ c κs. search answers)
     (λ c. search answers)
     (λ c. search answers)

@@ -1,3 +1,5 @@
+-- `extents::mapping::by_source` meets its contract. One rule for each source. A file offset above 2^64 - 1 is told by a subtraction, which cannot wrap.
+-- Assumes nothing.
 use Rattle.extents.proofs.Mappings.{sources}
 use Rattle.extents.proofs.mapping.by_source.Statement.{statement}
 use Rattle.extents.proofs.mapping.by_source.Tie as tie

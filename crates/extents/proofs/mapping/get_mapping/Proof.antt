@@ -1,4 +1,4 @@
--- `extents::get_mapping` meets its contract: a walk of its MIR, by hand, with no branch: what decides is in the covered `span` and `answer`, and the table is lent on to `head`, `search` and `row_at`.
+-- `extents::mapping::get_mapping` meets its contract: a walk of its MIR, by hand, with no branch: what decides is in the covered `span` and `answer`, and the table is lent on to `head`, `search` and `row_at`.
 -- Assumes nothing.
 use mathlib.Core.Path.{_≡_, refl, sym, ap, subst}
 use Prim.Native.Nat.{ℕ, _<_, _≤_, _^_, _-_, _+_}

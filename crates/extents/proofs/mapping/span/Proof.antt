@@ -1,3 +1,5 @@
+-- `extents::mapping::span` meets its contract. The tests are the definition's. Where there are too many rows, or the offset is at or past the size, nothing is searched.
+-- Assumes nothing.
 use Rattle.extents.proofs.Mappings.{spans}
 use Rattle.extents.proofs.mapping.span.Statement.{statement}
 use Rattle.extents.proofs.mapping.span.Tie as tie

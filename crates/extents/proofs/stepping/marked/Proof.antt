@@ -1,3 +1,5 @@
+-- `extents::stepping::marked` meets its contract. One rule for each answer of a mapping. The run is no more than what is left, and its end is a number of 64 bits.
+-- Assumes nothing.
 use Rattle.extents.proofs.Steps.{marks}
 use Rattle.extents.proofs.stepping.marked.Statement.{statement}
 use Rattle.extents.proofs.stepping.marked.Tie as tie

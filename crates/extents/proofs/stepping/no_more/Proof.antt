@@ -1,3 +1,5 @@
+-- `extents::stepping::no_more` meets its contract. The piece of such a mark is the piece of nothing. The rest is copied from the stand.
+-- Assumes nothing.
 use Rattle.extents.proofs.Steps.{ends}
 use Rattle.extents.proofs.stepping.no_more.Statement.{statement}
 use Rattle.extents.proofs.stepping.no_more.Tie as tie
