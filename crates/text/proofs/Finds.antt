@@ -9,7 +9,7 @@ use mathlib.Core.Path.{_≡_, refl, sym, _∙_}
 use borrow.Author.Needs.{needs}
 use lib.ListN.{length, getD, take, drop, drop-of-length-le, length-drop, length-append}
 use lib.Seq.{drop-cons, getD-append-seam, take-append-seam}
-use lib.Dec.{eqb}
+use lib.Dec.{leb, eqb}
 use borrow.Author.Tests.{eq-eqb, ne-eqb, le-leb, lt-leb}
 use Rattle.text.specs.Find.{findFrom, findAt, lineEnd, same, begins, stripOf, partOf}
 use Rattle.text.specs.declared.find.Place.{Place}
@@ -129,19 +129,19 @@ module _ (t : List ℕ) where
   unfolding stripOf
   strip-short h = rw (lt-leb _ _ h)
 
-  pub strip-open : 2 ≤ length t → (getD t 0 0 ≡ 0x22 → ⊥) → whole t ≡ stripOf t
+  pub strip-open : (getD t 0 0 ≡ 0x22 → ⊥) → whole t ≡ stripOf t
   unfolding stripOf
-  strip-open h a = rw (le-leb _ _ h, ne-eqb _ _ a)
+  strip-open a = rw (ne-eqb _ _ a, pick-same (leb 2 (length t)) false)
 
-  pub strip-close : 2 ≤ length t → getD t 0 0 ≡ 0x22 → (getD t (length t - 1) 0 ≡ 0x22 → ⊥) → whole t ≡ stripOf t
+  pub strip-close : (getD t (length t - 1) 0 ≡ 0x22 → ⊥) → whole t ≡ stripOf t
   unfolding stripOf
-  strip-close h a b = rw (le-leb _ _ h, eq-eqb _ _ a, ne-eqb _ _ b)
+  strip-close b = rw (ne-eqb _ _ b, pick-same (eqb (getD t 0 0) 0x22) false, pick-same (leb 2 (length t)) false)
 
   pub strip-both : 2 ≤ length t → getD t 0 0 ≡ 0x22 → getD t (length t - 1) 0 ≡ 0x22 → record { from = 1; to = length t - 1 } ≡ stripOf t
   unfolding stripOf
   strip-both h a b = rw (le-leb _ _ h, eq-eqb _ _ a, eq-eqb _ _ b)
 
-pub ruleset strips = (strip-short, strip-open, strip-close, strip-both, needs)
+pub ruleset strips = (strip-open, strip-close, strip-both, needs)
 
 -- a text in quotes is stripped to what stands between them
 pub strip-between : (l : List ℕ) → partOf (0x22 ∷ l ++ 0x22 ∷ []) (stripOf (0x22 ∷ l ++ 0x22 ∷ [])) ≡ l

@@ -105,20 +105,14 @@ module _ (limit : ℕ) (t : List ℕ) (from at v : ℕ) (i : digitsAt limit t fr
     pub num-high : 0x39 < getD t at 0 → Bad ≡ digitsAt limit t from
     num-high l = rw (num-at, within-above _ _ _ l)
 
-    module _ (l : 0x30 ≤ getD t at 0) (u : getD t at 0 ≤ 0x39) where
-      num-over : limit < v * 10 + (getD t at 0 - 0x30) → Bad ≡ digitsAt limit t from
-      num-over o = rw (num-at, within-in _ _ _ l u, lt-leb _ _ o)
+    -- above the limit with this byte, whatever it is
+    pub num-over : limit < v * 10 + (getD t at 0 - 0x30) → Bad ≡ digitsAt limit t from
+    num-over o = rw (num-at, lt-leb _ _ o) (sym (pick-same (digit (getD t at 0)) Bad))
 
-      pub num-over-digit : limit < getD t at 0 - 0x30 → Bad ≡ digitsAt limit t from
-      num-over-digit o = num-over (omega arith)
+    pub num-more : 0x30 ≤ getD t at 0 → getD t at 0 ≤ 0x39 → getD t at 0 - 0x30 ≤ limit → v ≤ (limit - (getD t at 0 - 0x30)) / 10 → digitsAt limit t from ≡ numAt limit t (at + 1) (v * 10 + (getD t at 0 - 0x30))
+    num-more l u d o = let f : v * 10 + (getD t at 0 - 0x30) ≤ limit = omega arith in rw (num-at, within-in _ _ _ l u, le-leb _ _ f)
 
-      pub num-over-all : getD t at 0 - 0x30 ≤ limit → (limit - (getD t at 0 - 0x30)) / 10 < v → Bad ≡ digitsAt limit t from
-      num-over-all d o = num-over (omega arith)
-
-      pub num-more : getD t at 0 - 0x30 ≤ limit → v ≤ (limit - (getD t at 0 - 0x30)) / 10 → digitsAt limit t from ≡ numAt limit t (at + 1) (v * 10 + (getD t at 0 - 0x30))
-      num-more d o = let f : v * 10 + (getD t at 0 - 0x30) ≤ limit = omega arith in rw (num-at, within-in _ _ _ l u, le-leb _ _ f)
-
-pub ruleset digits = (digits-none, digits-start, num-end, num-low, num-high, num-over-digit, num-over-all, num-more, needs)
+pub ruleset digits = (digits-none, digits-start, num-end, num-low, num-more, needs)
 
 -- The rule of `number`
 pub number-is : (limit : ℕ) (t : List ℕ) {s : ℕ} {r : Num} → s ≡ signOf t → r ≡ digitsAt limit t s → r ≡ numberOf limit t

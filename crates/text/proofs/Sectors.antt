@@ -38,7 +38,7 @@ module _ (s : Sectors) where
   unfolding bytesOf
   bytes-count h = let o : s .0 * sectorSize ≤ largest = omega arith in rw (le-leb _ _ o)
 
-pub ruleset sectors = (sectors-count, sectors-bad, bytes-over, bytes-count, needs)
+pub ruleset sectors = (sectors-count, sectors-bad, bytes-count, needs)
 
 -- the bytes are 512 to a sector, and within 2^64-1, or they are too many
 pub bytes-rule : (s : Sectors) (b : ℕ) → (bytesOf s ≡ Bytes·Count (record { 0 = b })) ↔ ((s .0 * sectorSize ≡ b) × (b ≤ largest))

@@ -30,7 +30,7 @@ impl Sectors {
     pub fn of(t: &[u8]) -> SectorCount
         ensures { λ r. ⌜ r ≡ sectorsOf (now (t .entry)) ⌝ }
     {
-        let n = number(t, Bytes::MOST);
+        let n = number(t, u64::MAX);
         match n {
             Num::Value(v) => SectorCount::Count(Sectors(v)),
             Num::Bad => SectorCount::Bad,
@@ -42,14 +42,9 @@ impl Sectors {
         ensures { λ r. ⌜ r ≡ bytesOf self ⌝ }
     {
         let n = self.0;
-        if Bytes::MOST / Sectors::SIZE < n {
+        if u64::MAX / Sectors::SIZE < n {
             return ByteCount::TooLarge;
         }
         ByteCount::Count(Bytes(n * Sectors::SIZE))
     }
-}
-
-impl Bytes {
-    // The most that a count can be: 2^64-1.
-    pub const MOST: u64 = 18446744073709551615;
 }

@@ -146,7 +146,7 @@ pub fn ask(kind: &[u8], t: &[u8]) -> Answer {
         b'b' => blank(t),
         b't' => trim(t),
         b'w' => word(t),
-        b'n' => number(t, 18446744073709551615),
+        b'n' => number(t, u64::MAX),
         b'v' => number(t, 4294967295),
         b'q' => quotes(t),
         b's' => sectors(t),

@@ -26,7 +26,7 @@ fn read_field(d: &[u8], from: usize) -> Field {
     let w = text::words::next_word(d, from);
     match w {
         Word::Found(a, e) => {
-            let n = text::number::number(&d[a..e], 18446744073709551615);
+            let n = text::number::number(&d[a..e], u64::MAX);
             match n {
                 Num::Value(v) => Field { value: v, end: e },
                 Num::Bad => Field { value: 0, end: e },
