@@ -19,7 +19,6 @@ use crate::record::VmdkParsedStorage;
 use text::find::line_end;
 use text::find::starts_with;
 use text::sector::ByteCount;
-use text::sector::Bytes;
 use text::sector::Sectors;
 
 // What reading answers: a record, which is empty where the descriptor is refused.
@@ -140,7 +139,7 @@ fn check_sizes(extents: [VmdkParsedExtent; 128], count: usize) -> Verdict
             ByteCount::TooLarge => return refuse(18, i),
             ByteCount::Count(b) => {
                 let n = b.0;
-                if Bytes::MOST - n < sum {
+                if u64::MAX - n < sum {
                     return refuse(19, i);
                 }
                 sum += n;
