@@ -8,6 +8,13 @@ use libc::STDIN_FILENO;
 ghost use mathlib.Core.Path.{_≡_};
 ghost use lib.ListN.{length};
 
+// Room for a descriptor of two bytes more than the longest that is read.
+fn space() -> [u8; 2097154]
+    ensures { λ r. ⌜ 2097154 ≡ length r ⌝ }
+{
+    [0; 2097154]
+}
+
 // Room for 255 queries of 18 bytes.
 fn query_space() -> [u8; 4590]
     ensures { λ r. ⌜ 4590 ≡ length r ⌝ }
@@ -67,7 +74,7 @@ fn run(d: &mut [u8], queries: &mut [u8], to: &mut [u8]) {
 }
 
 fn main() {
-    let mut d = io::large_buffer();
+    let mut d = space();
     let mut queries = query_space();
     let mut to = io::large_buffer();
     run(&mut d, &mut queries, &mut to);
