@@ -6,3 +6,4 @@ pub mod Lines
 pub mod Fillings
 pub mod Reading
 pub mod Probing
+pub mod Refusals

@@ -1,0 +1,91 @@
+-- The words of the theorems: what the lines of a descriptor say, which line is refused, and which versions are said.
+use Prim.Native.Nat.{ℕ, suc, _+_, _≤_}
+use mathlib.Core.List.{List, [], _∷_, _++_}
+use mathlib.Core.Bool.{Bool, true, false}
+use mathlib.Core.Path.{_≡_}
+use lib.ListN.{length}
+use Rattle.text.specs.Find.{begins}
+use Rattle.text.specs.Lines.{linesOf}
+use Rattle.descriptor.specs.Record.{most}
+use Rattle.descriptor.specs.Line.{lineOf}
+use Rattle.descriptor.specs.Read.{leastBytes, mostBytes, sparse}
+use Rattle.descriptor.specs.declared.line.Setting.the-variants.{Version, Cid, ParentCid, CreateType, Sectors, Heads, Cylinders}
+use Rattle.descriptor.specs.declared.line.Said.{Said}
+use Rattle.descriptor.specs.declared.line.Said.the-variants.{Nothing, Extent, Set, Refused}
+use Rattle.descriptor.specs.declared.record.VmdkParsedExtent.{VmdkParsedExtent}
+
+-- a descriptor to be read by line: its length is in range, and it is no sparse file
+pub record ByLine (t : List ℕ) : Type 0 where
+  pub least : leastBytes ≤ length t
+  pub small : length t ≤ mostBytes
+  pub plain : begins t sparse ≡ false
+
+-- where the line after some lines lies, if the first of them lies at p
+unfoldable pub placeAfter : ℕ → List (List ℕ) → ℕ
+placeAfter p [] = p
+placeAfter p (l ∷ ls) = placeAfter (p + length l + 1) ls
+
+-- what the lines say one after the other, if the first of them lies at p
+unfoldable pub sayings : ℕ → List (List ℕ) → List Said
+sayings p [] = []
+sayings p (l ∷ ls) = lineOf p l ∷ sayings (p + length l + 1) ls
+
+-- what the lines of a descriptor say
+abbrev pub sayingsOf : List ℕ → List Said
+sayingsOf t = sayings 0 (linesOf t)
+
+-- the extents that are said, in order
+unfoldable pub extentsIn : List Said → List VmdkParsedExtent
+extentsIn [] = []
+extentsIn (Extent x ∷ ss) = x ∷ extentsIn ss
+extentsIn (Nothing ∷ ss) = extentsIn ss
+extentsIn (Set v ∷ ss) = extentsIn ss
+extentsIn (Refused n ∷ ss) = extentsIn ss
+
+-- some line says a refusal
+unfoldable pub refuses : List Said → Bool
+refuses [] = false
+refuses (Refused n ∷ ss) = true
+refuses (Nothing ∷ ss) = refuses ss
+refuses (Set v ∷ ss) = refuses ss
+refuses (Extent x ∷ ss) = refuses ss
+
+-- every line is sound: none says a refusal, and at most 128 say an extent
+abbrev pub AllSound : List Said → Type 0
+AllSound ss = (refuses ss ≡ false) × (length (extentsIn ss) ≤ most)
+
+-- a line that says so is refused with the number n, after lines that say `before`: 16 is for one extent more than 128
+abbrev pub RefusedWith : ℕ → List Said → Said → Type 0
+RefusedWith n before Nothing = ⊥
+RefusedWith n before (Set v) = ⊥
+RefusedWith n before (Refused m) = m ≡ n
+RefusedWith n before (Extent x) = (n ≡ 16) × (length (extentsIn before) ≡ most)
+
+-- line k, counted from 1, is l, which lies at the place p, after the lines `before`
+pub record LineAt (t : List ℕ) (before : List (List ℕ)) (l : List ℕ) (p k : ℕ) : Type 0 where
+  pub after : List (List ℕ)
+  pub lines : linesOf t ≡ before ++ l ∷ after
+  pub place : p ≡ placeAfter 0 before
+  pub number : k ≡ suc (length before)
+
+-- l is the first line that is refused: line k, with the number n
+pub record FirstRefused (t l : List ℕ) (n k : ℕ) : Type 0 where
+  pub before : List (List ℕ)
+  pub place : ℕ
+  pub line : LineAt t before l place k
+  pub sound : AllSound (sayings 0 before)
+  pub refused : RefusedWith n (sayings 0 before) (lineOf place l)
+
+-- the version that the first line with one says, 0 where none does
+unfoldable pub firstVersion : List Said → ℕ
+firstVersion [] = 0
+firstVersion (Set (Version v) ∷ ss) = v
+firstVersion (Set (Cid x) ∷ ss) = firstVersion ss
+firstVersion (Set (ParentCid x) ∷ ss) = firstVersion ss
+firstVersion (Set (CreateType x) ∷ ss) = firstVersion ss
+firstVersion (Set (Sectors n) ∷ ss) = firstVersion ss
+firstVersion (Set (Heads n) ∷ ss) = firstVersion ss
+firstVersion (Set (Cylinders n) ∷ ss) = firstVersion ss
+firstVersion (Nothing ∷ ss) = firstVersion ss
+firstVersion (Extent x ∷ ss) = firstVersion ss
+firstVersion (Refused n ∷ ss) = firstVersion ss
