@@ -7,3 +7,4 @@ pub mod Fillings
 pub mod Reading
 pub mod Probing
 pub mod Refusals
+pub mod Numbers

@@ -54,12 +54,12 @@ refuses (Extent x ∷ ss) = refuses ss
 abbrev pub AllSound : List Said → Type 0
 AllSound ss = (refuses ss ≡ false) × (length (extentsIn ss) ≤ most)
 
--- a line that says so is refused with the number n, after lines that say `before`: 16 is for one extent more than 128
-abbrev pub RefusedWith : ℕ → List Said → Said → Type 0
-RefusedWith n before Nothing = ⊥
-RefusedWith n before (Set v) = ⊥
-RefusedWith n before (Refused m) = m ≡ n
-RefusedWith n before (Extent x) = (n ≡ 16) × (length (extentsIn before) ≡ most)
+-- a line that says so, after so many extents, is refused with the number n: 16 is for one extent more than 128
+abbrev pub RefusedWith : ℕ → ℕ → Said → Type 0
+RefusedWith n count Nothing = ⊥
+RefusedWith n count (Set v) = ⊥
+RefusedWith n count (Refused m) = m ≡ n
+RefusedWith n count (Extent x) = (n ≡ 16) × (count ≡ most)
 
 -- line k, counted from 1, is l, which lies at the place p, after the lines `before`
 pub record LineAt (t : List ℕ) (before : List (List ℕ)) (l : List ℕ) (p k : ℕ) : Type 0 where
@@ -74,7 +74,7 @@ pub record FirstRefused (t l : List ℕ) (n k : ℕ) : Type 0 where
   pub place : ℕ
   pub line : LineAt t before l place k
   pub sound : AllSound (sayings 0 before)
-  pub refused : RefusedWith n (sayings 0 before) (lineOf place l)
+  pub refused : RefusedWith n (length (extentsIn (sayings 0 before))) (lineOf place l)
 
 -- the version that the first line with one says, 0 where none does
 unfoldable pub firstVersion : List Said → ℕ
