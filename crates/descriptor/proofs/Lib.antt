@@ -7,4 +7,6 @@ pub mod Fillings
 pub mod Reading
 pub mod Probing
 pub mod Refusals
+pub mod Sayings
 pub mod Numbers
+pub mod Verdicts

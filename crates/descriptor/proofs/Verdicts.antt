@@ -1,0 +1,93 @@
+-- Outside the lines a descriptor is refused with 1, 2 or 3 before them and 17, 18 or 19 after them.
+-- So a number between is a line's, and the first line that is refused gives it.
+use Prim.Native.Nat.{ℕ, suc, _+_, _≤_, _<_}
+use native.Mathlib.Omega.{arith}
+use mathlib.Core.List.{List, [], _∷_, _++_}
+use mathlib.Core.Logic.{_↔_}
+use mathlib.Core.Bool.{Bool, true, false}
+use mathlib.Core.Path.{_≡_, refl, sym, ap, subst, _∙_}
+use lib.ListN.{length}
+use lib.Dec.{ltb}
+use borrow.Author.Tests.{le-ltb, ltb-true, ltb-false}
+use Rattle.text.specs.Find.{begins}
+use Rattle.text.specs.Lines.{linesOf}
+use Rattle.text.specs.Text.{textAt, sound}
+use Rattle.text.proofs.Flat.{by-test}
+use Rattle.descriptor.specs.Record.{noDesc, refusal}
+use Rattle.descriptor.specs.Line.{lineOf}
+use Rattle.descriptor.specs.Read.{leastBytes, mostBytes, sparse, readLines, readOf}
+use Rattle.descriptor.specs.Statements.{ByLine, placeAfter, sayings, extentsIn, RefusedWith, LineAt, FirstRefused}
+use Rattle.descriptor.specs.declared.line.Said.{Said}
+use Rattle.descriptor.specs.declared.line.Said.the-variants.{Nothing, Extent, Set, Refused}
+use Rattle.descriptor.specs.declared.record.Verdict.the-variants.{Sound}
+use Rattle.descriptor.proofs.Numbers.{four}
+use Rattle.descriptor.proofs.Sayings.{Stops, never, stopped, stops}
+
+-- a descriptor in range that is no sparse file is read by its lines
+pub by-line : (t : List ℕ) → ByLine t → readOf t ≡ readLines 1 0 noDesc [] (linesOf t)
+unfolding readOf
+by-line t b = rw (le-ltb (length t) leastBytes (b .least), le-ltb mostBytes (length t) (b .small), b .plain)
+
+-- and any other is refused with 1, 2 or 3
+pub by-size : {C : Type 0} (t : List ℕ) → (ByLine t → C) → ((n : ℕ) → n ≤ 3 → readOf t .verdict ≡ refusal n 0 → C) → C
+unfolding readOf
+by-size t f g =
+    by-test (ltb (length t) leastBytes) (λ e. g 1 (omega arith) (rw e))
+    (λ e. by-test (ltb mostBytes (length t)) (λ e₂. g 2 (omega arith) (rw (e, e₂)))
+    (λ e₂. by-test (begins t sparse) (λ e₃. g 3 (omega arith) (rw (e, e₂, e₃)))
+    (λ e₃. f (record { least = ltb-false (length t) leastBytes e; small = ltb-false mostBytes (length t) e₂; plain = e₃ }))))
+
+pub late : (t : List ℕ) (n k : ℕ) → 4 ≤ n → readOf t .verdict ≡ refusal n k → ByLine t
+late t n k h e = by-size t (λ b. b) (λ m l q. let r = never n k m 0 (sym q ∙ e) in absurd (omega arith))
+
+-- the first line that is refused, as it is stated and as it is found
+found-first : (t : List ℕ) (n k : ℕ) → Stops 1 0 0 (linesOf t) n k → (l : List ℕ) × FirstRefused t l n k
+found-first t n k s =
+    let q : 0 + length (extentsIn (sayings 0 (s .before))) ≡ length (extentsIn (sayings 0 (s .before))) = omega arith in
+    (s .line, record {
+      before = s .before;
+      place = placeAfter 0 (s .before);
+      line = record { after = s .after; lines = s .lines; place = refl; number = let i = s .number in omega arith };
+      sound = (s .none, let f = s .few in omega arith);
+      refused = rw q at (s .refused);
+    })
+
+first-found : (t l : List ℕ) (n k : ℕ) → FirstRefused t l n k → Stops 1 0 0 (linesOf t) n k
+first-found t l n k s =
+    let q : 0 + length (extentsIn (sayings 0 (s .before))) ≡ length (extentsIn (sayings 0 (s .before))) = omega arith in
+    record {
+      before = s .before;
+      line = l;
+      after = s .line .after;
+      lines = s .line .lines;
+      number = let i = s .line .number in omega arith;
+      none = s .sound .0;
+      few = let f = s .sound .1 in omega arith;
+      refused = rw (q, ← s .line .place) (s .refused);
+    }
+
+pub line-refused : (t : List ℕ) (n k : ℕ) → 4 ≤ n → n ≤ 16 → (readOf t .verdict ≡ refusal n k) ↔ (ByLine t × ((l : List ℕ) × FirstRefused t l n k))
+line-refused t n k h m = (
+  λ e. let b = late t n k h e in (b, found-first t n k (stopped 1 0 noDesc [] (linesOf t) n k (omega arith) m (rw (by-line t b) at e))),
+  λ w. rw (by-line t (w .0)) (stops 1 0 noDesc [] (linesOf t) n k (first-found t (w .1 .0) n k (w .1 .1))),
+)
+
+-- with 4 exactly if it is not UTF-8
+four-in : (p : ℕ) (l : List ℕ) (n count : ℕ) → sound (textAt l 0) ≡ false → RefusedWith n count (lineOf p l) → n ≡ 4
+four-in p l n count h r = sym (subst (RefusedWith n count) (four p l .1 h) r)
+
+four-out : (p : ℕ) (l : List ℕ) (s : Said) (count : ℕ) → lineOf p l ≡ s → RefusedWith 4 count s → sound (textAt l 0) ≡ false
+four-out p l Nothing count e r = absurd r
+four-out p l (Set v) count e r = absurd r
+four-out p l (Extent x) count e r = let z : _≡_ {A = ℕ} 4 16 = r .0 in absurd (omega arith)
+four-out p l (Refused m) count e r = four p l .0 (e ∙ ap Refused r)
+
+pub line-no-text : (t : List ℕ) (k : ℕ) → (readOf t .verdict ≡ refusal 4 k) ↔ (ByLine t × ((l : List ℕ) × ((n : ℕ) × FirstRefused t l n k × (sound (textAt l 0) ≡ false))))
+line-no-text t k = (
+  λ e. let w = line-refused t 4 k (omega arith) (omega arith) .0 e in
+      let f = w .1 .1 in
+      (w .0, (w .1 .0, (4, f, four-out (f .place) (w .1 .0) (lineOf (f .place) (w .1 .0)) _ refl (f .refused)))),
+  λ w. let f = w .1 .1 .1 in
+      let q : w .1 .1 .0 ≡ 4 = four-in (f .place) (w .1 .0) (w .1 .1 .0) _ (w .1 .1 .2) (f .refused) in
+      line-refused t 4 k (omega arith) (omega arith) .1 (w .0, (w .1 .0, rw q at f)),
+)
