@@ -10,3 +10,4 @@ pub mod Refusals
 pub mod Sayings
 pub mod Numbers
 pub mod Verdicts
+pub mod Trimming
