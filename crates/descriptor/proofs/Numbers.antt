@@ -43,49 +43,52 @@ use Rattle.descriptor.specs.declared.record.VmdkAccessType.{VmdkAccessTy
 use Rattle.descriptor.specs.declared.record.VmdkAccessType.the-variants.{RdOnly as ReadOnly, RW as ReadWrite}
 use Rattle.descriptor.specs.declared.record.VmdkParsedStorage.{VmdkParsedStorage}
 
--- what is refused is refused with a number from 5 to 15
-abbrev Late : Said → Type 0
-Late Nothing = Unit {0}
-Late (Extent x) = Unit {0}
-Late (Set s) = Unit {0}
-Late (Refused n) = (5 ≤ n) × (n ≤ 15)
+-- what a line with a key says: no extent, and its refusals are 12 to 15
+abbrev pub OfKey : Said → Type 0
+OfKey Nothing = Unit {0}
+OfKey (Set v) = Unit {0}
+OfKey (Extent x) = ⊥
+OfKey (Refused n) = (12 ≤ n) × (n ≤ 15)
 
-late-pick : (b : Bool) (r s : Said) → Late r → Late s → Late (pick b r s)
-late-pick true r s f g = f
-late-pick false r s f g = g
+-- what an extent line says: an extent, or a refusal 5 to 11
+abbrev pub OfExtent : Said → Type 0
+OfExtent Nothing = ⊥
+OfExtent (Set v) = ⊥
+OfExtent (Extent x) = Unit {0}
+OfExtent (Refused n) = (5 ≤ n) × (n ≤ 11)
 
 -- ---- a line with a key
-late-version : (n : Num) → Late (versionBy n)
-late-version (Value v) = tt
-late-version Bad = omega arith
+key-version : (n : Num) → OfKey (versionBy n)
+key-version (Value v) = tt
+key-version Bad = omega arith
 
-late-geometry : (g : Geometry) (n : Num) → Late (geometryBy g n)
-late-geometry g (Value v) = tt
-late-geometry g Bad = omega arith
+key-geometry : (g : Geometry) (n : Num) → OfKey (geometryBy g n)
+key-geometry g (Value v) = tt
+key-geometry g Bad = omega arith
 
-late-value : (k : Key) (p : ℕ) (v : List ℕ) → Late (valueOf k p v)
+key-value : (k : Key) (p : ℕ) (v : List ℕ) → OfKey (valueOf k p v)
 unfolding valueOf versionOf geometryLine
-late-value Version p v = late-version (numberOf versionLimit (trimmed v))
-late-value Cid p v = tt
-late-value ParentCid p v = tt
-late-value CreateType p v = tt
-late-value ParentFileNameHint p v = omega arith
-late-value (Geometry·Key g) p v = late-geometry g (geometryOf v)
-late-value Ddb p v = tt
-late-value Unknown p v = omega arith
+key-value Version p v = key-version (numberOf versionLimit (trimmed v))
+key-value Cid p v = tt
+key-value ParentCid p v = tt
+key-value CreateType p v = tt
+key-value ParentFileNameHint p v = omega arith
+key-value (Geometry·Key g) p v = key-geometry g (geometryOf v)
+key-value Ddb p v = tt
+key-value Unknown p v = omega arith
 
-late-key : (p : ℕ) (t : List ℕ) (f : Place) → Late (keyBy p t f)
-late-key p t Nowhere = tt
-late-key p t (Here i) = late-value (keyOf (trimmed (take i t))) (p + (i + 1)) (drop (i + 1) t)
+key-key : (p : ℕ) (t : List ℕ) (f : Place) → OfKey (keyBy p t f)
+key-key p t Nowhere = tt
+key-key p t (Here i) = key-value (keyOf (trimmed (take i t))) (p + (i + 1)) (drop (i + 1) t)
 
-late-keys : (p : ℕ) (t : List ℕ) → Late (keyLine p t)
+pub key-keys : (p : ℕ) (t : List ℕ) → OfKey (keyLine p t)
 unfolding keyLine
-late-keys p t = late-key p t (findAt 0x3D t 0)
+key-keys p t = key-key p t (findAt 0x3D t 0)
 
 -- ---- an extent line
 abbrev LateName : FileName → Type 0
 LateName (Name x e) = Unit {0}
-LateName (NameRefused n) = (5 ≤ n) × (n ≤ 15)
+LateName (NameRefused n) = (5 ≤ n) × (n ≤ 11)
 
 late-picked : (b : Bool) (r s : FileName) → LateName r → LateName s → LateName (pick b r s)
 late-picked true r s f g = f
@@ -103,47 +106,86 @@ late-name : (p : ℕ) (t : List ℕ) → LateName (fileNameOf p t)
 unfolding fileNameOf
 late-name p t = late-quote p t (findAt 0x22 t 0)
 
-late-from : (c : SectorCount) (a : VmdkAccessType) (s : Sectors) (file : Sectors → VmdkParsedStorage) → Late (flatFrom c a s file)
-late-from (Sectors·Count start) a s file = tt
-late-from Sectors·Bad a s file = omega arith
+extent-from : (c : SectorCount) (a : VmdkAccessType) (s : Sectors) (file : Sectors → VmdkParsedStorage) → OfExtent (flatFrom c a s file)
+extent-from (Sectors·Count start) a s file = tt
+extent-from Sectors·Bad a s file = omega arith
 
-late-by : (f : FileName) (a : VmdkAccessType) (s : Sectors) (t : List ℕ) → LateName f → Late (flatBy f a s t)
-late-by (Name name after) a s t h = late-from (fileStartOf t after) a s _
-late-by (NameRefused n) a s t h = h
+extent-by : (f : FileName) (a : VmdkAccessType) (s : Sectors) (t : List ℕ) → LateName f → OfExtent (flatBy f a s t)
+extent-by (Name name after) a s t h = extent-from (fileStartOf t after) a s _
+extent-by (NameRefused n) a s t h = h
 
-late-third : (k : Third) (a : VmdkAccessType) (s : Sectors) (p : ℕ) (t : List ℕ) → Late (byThird k a s p t)
+extent-third : (k : Third) (a : VmdkAccessType) (s : Sectors) (p : ℕ) (t : List ℕ) → OfExtent (byThird k a s p t)
 unfolding flatLine
-late-third Missing a s p t = omega arith
-late-third Zero a s p t = tt
-late-third Flat a s p t = late-by (fileNameOf p t) a s t (late-name p t)
-late-third Unsupported a s p t = omega arith
+extent-third Missing a s p t = omega arith
+extent-third Zero a s p t = tt
+extent-third Flat a s p t = extent-by (fileNameOf p t) a s t (late-name p t)
+extent-third Unsupported a s p t = omega arith
 
-late-second : (n : Second) (a : VmdkAccessType) (p : ℕ) (t : List ℕ) → Late (bySecond n a p t)
-late-second (Count s e) a p t = late-third (thirdOf t e) a s p t
-late-second Second·Bad a p t = omega arith
+extent-second : (n : Second) (a : VmdkAccessType) (p : ℕ) (t : List ℕ) → OfExtent (bySecond n a p t)
+extent-second (Count s e) a p t = extent-third (thirdOf t e) a s p t
+extent-second Second·Bad a p t = omega arith
 
-late-locked : (n : Second) → Late (noAccessBy n)
-late-locked (Count s e) = tt
-late-locked Second·Bad = omega arith
+extent-locked : (n : Second) → OfExtent (noAccessBy n)
+extent-locked (Count s e) = tt
+extent-locked Second·Bad = omega arith
 
-late-access : (w : AccessWord) (p : ℕ) (t : List ℕ) (end : ℕ) → Late (accessLine w p t end)
-unfolding accessLine noAccessLine extentLine
-late-access NoAccess p t end = late-locked (secondOf t end)
-late-access RdOnly p t end = late-second (secondOf t end) ReadOnly p t
-late-access RW p t end = late-second (secondOf t end) ReadWrite p t
-late-access Other p t end = late-keys p t
+pub extent-locked-line : (t : List ℕ) (end : ℕ) → OfExtent (noAccessLine t end)
+unfolding noAccessLine
+extent-locked-line t end = extent-locked (secondOf t end)
+
+pub extent-line : (a : VmdkAccessType) (p : ℕ) (t : List ℕ) (end : ℕ) → OfExtent (extentLine a p t end)
+unfolding extentLine
+extent-line a p t end = extent-second (secondOf t end) a p t
 
 -- ---- a line
+-- what is refused is refused with a number from 5 to 15
+abbrev Late : Said → Type 0
+Late Nothing = Unit {0}
+Late (Extent x) = Unit {0}
+Late (Set s) = Unit {0}
+Late (Refused n) = (5 ≤ n) × (n ≤ 15)
+
+late-of-key : (s : Said) → OfKey s → Late s
+late-of-key Nothing h = tt
+late-of-key (Set v) h = tt
+late-of-key (Extent x) h = tt
+late-of-key (Refused n) h = omega arith
+
+late-of-extent : (s : Said) → OfExtent s → Late s
+late-of-extent Nothing h = tt
+late-of-extent (Set v) h = tt
+late-of-extent (Extent x) h = tt
+late-of-extent (Refused n) h = omega arith
+
+late-pick : (b : Bool) (r s : Said) → Late r → Late s → Late (pick b r s)
+late-pick true r s f g = f
+late-pick false r s f g = g
+
+late-access : (w : AccessWord) (p : ℕ) (t : List ℕ) (end : ℕ) → Late (accessLine w p t end)
+unfolding accessLine
+late-access NoAccess p t end = late-of-extent (noAccessLine t end) (extent-locked-line t end)
+late-access RdOnly p t end = late-of-extent (extentLine ReadOnly p t end) (extent-line ReadOnly p t end)
+late-access RW p t end = late-of-extent (extentLine ReadWrite p t end) (extent-line ReadWrite p t end)
+late-access Other p t end = late-of-key (keyLine p t) (key-keys p t)
+
 late-line : (p : ℕ) (t : List ℕ) → Late (textLine p t)
 unfolding textLine
 late-line p t =
     late-pick (skipped t) Nothing _ tt
     (late-pick (ltb (firstBlank t) (length t)) (accessLine (accessWord (take (firstBlank t) t)) p t (firstBlank t)) (keyLine p t)
-    (late-access (accessWord (take (firstBlank t) t)) p t (firstBlank t)) (late-keys p t))
+    (late-access (accessWord (take (firstBlank t) t)) p t (firstBlank t)) (late-of-key (keyLine p t) (key-keys p t)))
 
 late-trimmed : (p : ℕ) (l : List ℕ) (r : Trimmed) → trimmedLine p l r ≡ Refused 4 → r ≡ Wrong
 late-trimmed p l (Range a e) h = let g : (5 ≤ 4) × (4 ≤ 15) = subst Late h (late-line (p + a) (part l a e)) in absurd (omega arith)
 late-trimmed p l Wrong h = refl
+
+line-late : (p : ℕ) (l : List ℕ) (r : Trimmed) (n : ℕ) → trimmedLine p l r ≡ Refused n → n ≤ 15
+line-late p l (Range a e) n h = let g : (5 ≤ n) × (n ≤ 15) = subst Late h (late-line (p + a) (part l a e)) in g .1
+line-late p l Wrong n h = let q : 4 ≡ n = cc in omega arith
+
+pub line-number : (p : ℕ) (l : List ℕ) (n : ℕ) → lineOf p l ≡ Refused n → n ≤ 15
+unfolding lineOf
+line-number p l n h = line-late p l (trimOf l) n h
 
 -- a line is refused with 4 exactly if it is not UTF-8
 pub four : (p : ℕ) (l : List ℕ) → (lineOf p l ≡ Refused 4) ↔ (sound (textAt l 0) ≡ false)

@@ -26,10 +26,11 @@ use Rattle.descriptor.specs.declared.record.Verdict.the-variants.{Sound,
 use Rattle.descriptor.specs.declared.record.VmdkDesc.{VmdkDesc}
 use Rattle.descriptor.specs.declared.record.VmdkParsedExtent.{VmdkParsedExtent}
 use Rattle.descriptor.specs.declared.read.Read.{Read}
+use Rattle.descriptor.proofs.Numbers.{line-number}
 
 -- ---- after the lines
 -- what is refused is refused with a number from m on
-abbrev From : ℕ → Verdict → Type 0
+abbrev pub From : ℕ → Verdict → Type 0
 From m Sound = Unit {0}
 From m (Stopped r) = m ≤ r .number
 
@@ -189,3 +190,40 @@ stops k p d xs ls n j s =
     let e : readLines k p d xs ls ≡ readLines (k + length (s .before)) (placeAfter p (s .before)) (setAll d (sayings p (s .before))) (xs ++ ys) (s .line ∷ s .after) =
     rw (s .lines) (passed k p d xs (s .before) (s .line ∷ s .after) (s .none) (s .few)) in
     rw (e, s .number) (stop-line (k + length (s .before)) (placeAfter p (s .before)) (setAll d (sayings p (s .before))) (xs ++ ys) n (s .line) (s .after) (rw length-append (s .refused)))
+
+-- ---- reading that no line ends
+nothing-left : (k p : ℕ) (d : VmdkDesc) (xs : List VmdkParsedExtent) → readLines k p d xs [] ≡ checked d xs
+unfolding readLines
+nothing-left k p d xs = refl
+
+nothing-said : (xs : List VmdkParsedExtent) → length xs ≤ most → (refuses [] ≡ false) × (length xs + length (extentsIn []) ≤ most)
+unfolding refuses extentsIn
+nothing-said xs h = (refl, omega arith)
+
+module _ (k p : ℕ) (l : List ℕ) where
+  abbrev Lasts : List VmdkParsedExtent → List Said → Type 0
+  Lasts xs ss = (refuses ss ≡ false) × (length xs + length (extentsIn ss) ≤ most)
+
+  lasts-by : (d : VmdkDesc) (xs : List VmdkParsedExtent) (s : Said) → lineOf p l ≡ s → (ss : List Said) (go : VmdkDesc → List VmdkParsedExtent → Read) → length xs ≤ most → ((d : VmdkDesc) (xs : List VmdkParsedExtent) → length xs ≤ most → From 17 (go d xs .verdict) → Lasts xs ss) → From 17 (byLine k s d xs go .verdict) → Lasts xs (s ∷ ss)
+  unfolding refuses extentsIn
+  lasts-by d xs Nothing q ss go h g f = g d xs h f
+  lasts-by d xs (Set v) q ss go h g f = g (setOf d v) xs h f
+  lasts-by d xs (Refused n) q ss go h g f = absurd (omega (arith, line-number p l n q))
+  lasts-by d xs (Extent x) q ss go h g f =
+      by-test (ltb (length xs) most)
+      (λ e. let w = ltb-true (length xs) most e in
+      let u : length (xs ++ (x ∷ [])) ≤ most = rw length-append (omega arith) in
+      let r = g d (xs ++ (x ∷ [])) u (rw e at f) in
+      (r .0, omega (arith, simp length-append at (r .1))))
+      (λ e. let z : 17 ≤ 16 = rw e at f in absurd (omega arith))
+
+-- if it is accepted, or refused with a number from 17 on, every line is sound
+pub all-sound : (k p : ℕ) (d : VmdkDesc) (xs : List VmdkParsedExtent) (ls : List (List ℕ)) → length xs ≤ most → From 17 (readLines k p d xs ls .verdict) → (refuses (sayings p ls) ≡ false) × (length xs + length (extentsIn (sayings p ls)) ≤ most)
+unfolding readLines sayings
+all-sound k p d xs [] h f = nothing-said xs h
+all-sound k p d xs (l ∷ ls) h f =
+    lasts-by k p l d xs (lineOf p l) refl (sayings (p + length l + 1) ls) (λ d xs. readLines (suc k) (p + length l + 1) d xs ls) h (λ d xs g e. all-sound (suc k) (p + length l + 1) d xs ls g e) f
+
+-- and the values and extents of all lines are checked
+pub after-all : (k p : ℕ) (d : VmdkDesc) (xs : List VmdkParsedExtent) (ls : List (List ℕ)) → refuses (sayings p ls) ≡ false → length xs + length (extentsIn (sayings p ls)) ≤ most → readLines k p d xs ls ≡ checked (setAll d (sayings p ls)) (xs ++ extentsIn (sayings p ls))
+after-all k p d xs ls h f = ap (readLines k p d xs) (sym (append-nil ls)) ∙ passed k p d xs ls [] h f ∙ nothing-left (k + length ls) (placeAfter p ls) (setAll d (sayings p ls)) (xs ++ extentsIn (sayings p ls))

@@ -1,27 +1,33 @@
 -- Outside the lines a descriptor is refused with 1, 2 or 3 before them and 17, 18 or 19 after them.
 -- So a number between is a line's, and the first line that is refused gives it.
-use Prim.Native.Nat.{ℕ, suc, _+_, _≤_, _<_}
+use Prim.Native.Nat.{ℕ, suc, _+_, _-_, _≤_, _<_}
 use native.Mathlib.Omega.{arith}
 use mathlib.Core.List.{List, [], _∷_, _++_}
 use mathlib.Core.Logic.{_↔_}
 use mathlib.Core.Bool.{Bool, true, false}
 use mathlib.Core.Path.{_≡_, refl, sym, ap, subst, _∙_}
-use lib.ListN.{length}
+use lib.ListN.{length, replicate}
+use lib.Seq.{take-append-seam}
 use lib.Dec.{ltb}
 use borrow.Author.Tests.{le-ltb, ltb-true, ltb-false}
+use Rattle.text.specs.Ranges.{within}
 use Rattle.text.specs.Find.{begins}
 use Rattle.text.specs.Lines.{linesOf}
 use Rattle.text.specs.Text.{textAt, sound}
 use Rattle.text.proofs.Flat.{by-test}
-use Rattle.descriptor.specs.Record.{noDesc, refusal}
+use Rattle.descriptor.specs.Record.{most, noExtent, noDesc, filled, recordOf, counted, refusal}
 use Rattle.descriptor.specs.Line.{lineOf}
-use Rattle.descriptor.specs.Read.{leastBytes, mostBytes, sparse, readLines, readOf}
-use Rattle.descriptor.specs.Statements.{ByLine, placeAfter, sayings, extentsIn, RefusedWith, LineAt, FirstRefused}
+use Rattle.descriptor.specs.Read.{leastBytes, mostBytes, sparse, answer, sizesFrom, checked, readLines, readOf}
+use Rattle.descriptor.specs.Statements.{ByLine, placeAfter, sayings, sayingsOf, extentsIn, AllSound, RefusedWith, LineAt, FirstRefused}
 use Rattle.descriptor.specs.declared.line.Said.{Said}
 use Rattle.descriptor.specs.declared.line.Said.the-variants.{Nothing, Extent, Set, Refused}
-use Rattle.descriptor.specs.declared.record.Verdict.the-variants.{Sound}
+use Rattle.descriptor.specs.declared.record.Verdict.{Verdict}
+use Rattle.descriptor.specs.declared.record.Verdict.the-variants.{Sound, Refused as Stopped}
+use Rattle.descriptor.specs.declared.record.VmdkDesc.{VmdkDesc}
+use Rattle.descriptor.specs.declared.record.VmdkParsedExtent.{VmdkParsedExtent}
+use Rattle.descriptor.specs.declared.read.Read.{Read}
 use Rattle.descriptor.proofs.Numbers.{four}
-use Rattle.descriptor.proofs.Sayings.{Stops, never, stopped, stops}
+use Rattle.descriptor.proofs.Sayings.{From, setAll, Stops, never, stopped, stops, all-sound, after-all}
 
 -- a descriptor in range that is no sparse file is read by its lines
 pub by-line : (t : List ℕ) → ByLine t → readOf t ≡ readLines 1 0 noDesc [] (linesOf t)
@@ -91,3 +97,42 @@ line-no-text t k = (
       let q : w .1 .1 .0 ≡ 4 = four-in (f .place) (w .1 .0) (w .1 .1 .0) _ (w .1 .1 .2) (f .refused) in
       line-refused t 4 k (omega arith) (omega arith) .1 (w .0, (w .1 .0, rw q at f)),
 )
+
+-- ---- a descriptor that no line ends
+module _ (t : List ℕ) where
+  -- every line is sound
+  pub lines-sound : ByLine t → From 17 (readOf t .verdict) → AllSound (sayingsOf t)
+  lines-sound b f = let r = all-sound 1 0 noDesc [] (linesOf t) (omega arith) (rw (by-line t b) at f) in (r .0, omega (arith, r .1))
+
+  -- and its values and extents are checked
+  pub lines-checked : ByLine t → AllSound (sayingsOf t) → readOf t ≡ checked (setAll noDesc (sayingsOf t)) (extentsIn (sayingsOf t))
+  lines-checked b a = by-line t b ∙ after-all 1 0 noDesc [] (linesOf t) (a .0) (let f = a .1 in omega arith)
+
+  pub accepted-lines : readOf t .verdict ≡ Sound → ByLine t × AllSound (sayingsOf t)
+  accepted-lines e =
+      let b : ByLine t = by-size t (λ b. b) (λ n h q. let g : refusal n 0 ≡ Sound = sym q ∙ e in let z : _≡_ {A = ℕ} 0 1 = cc in absurd (omega arith)) in
+      (b, lines-sound b (rw e tt))
+
+-- what is accepted after the lines
+answered : (v : Verdict) (d : VmdkDesc) (xs : List VmdkParsedExtent) → answer v d xs .verdict ≡ Sound → answer v d xs .descriptor ≡ recordOf d xs
+answered Sound d xs e = refl
+answered (Stopped r) d xs e = let z : _≡_ {A = ℕ} 0 1 = cc in absurd (omega arith)
+
+pub checked-sound : (d : VmdkDesc) (xs : List VmdkParsedExtent) → checked d xs .verdict ≡ Sound → (within 1 3 (d .version) ≡ true) × (checked d xs .descriptor ≡ recordOf d xs)
+unfolding checked
+checked-sound d xs e =
+    by-test (within 1 3 (d .version))
+    (λ q. rw q (refl, answered (sizesFrom 0 0 xs) d xs (rw q at e)))
+    (λ q. let g : refusal 17 0 ≡ Sound = rw q at e in let z : _≡_ {A = ℕ} 0 1 = cc in absurd (omega arith))
+
+counted-all : (d : VmdkDesc) (xs : List VmdkParsedExtent) → counted (recordOf d xs) ≡ xs
+unfolding counted filled
+counted-all d xs = take-append-seam xs (replicate (most - length xs) noExtent)
+
+-- its extents are those that its lines say
+pub accepted-extents : (t : List ℕ) → readOf t .verdict ≡ Sound → counted (readOf t .descriptor) ≡ extentsIn (sayingsOf t)
+accepted-extents t e =
+    let a = accepted-lines t e in
+    let q = lines-checked t (a .0) (a .1) in
+    let r = checked-sound (setAll noDesc (sayingsOf t)) (extentsIn (sayingsOf t)) (ap (λ (x : Read). x .verdict) (sym q) ∙ e) in
+    ap (λ (x : Read). counted (x .descriptor)) q ∙ rw (r .1) (counted-all (setAll noDesc (sayingsOf t)) (extentsIn (sayingsOf t)))

@@ -1,17 +1,29 @@
 -- The words of the theorems: what the lines of a descriptor say, which line is refused, and which versions are said.
-use Prim.Native.Nat.{ℕ, suc, _+_, _≤_}
+use Prim.Native.Nat.{ℕ, suc, _+_, _≤_, _<_}
 use mathlib.Core.List.{List, [], _∷_, _++_}
 use mathlib.Core.Bool.{Bool, true, false}
 use mathlib.Core.Path.{_≡_}
-use lib.ListN.{length}
+use lib.ListN.{length, take, drop}
 use Rattle.text.specs.Find.{begins}
-use Rattle.text.specs.Lines.{linesOf}
+use Rattle.text.specs.Lines.{linesOf, count}
+use Rattle.text.specs.Text.{trimmed, wordOf}
+use Rattle.text.specs.Sector.{sectorsOf}
+use Rattle.text.specs.declared.words.Word.the-variants.{Found}
+use Rattle.text.specs.declared.sector.SectorCount.{SectorCount}
+use Rattle.text.specs.declared.sector.SectorCount.the-variants.{Count}
 use Rattle.descriptor.specs.Record.{most}
-use Rattle.descriptor.specs.Line.{lineOf}
+use Rattle.descriptor.specs.Key.{ascii}
+use Rattle.descriptor.specs.Extent.{part, threeWords, fileStartOf}
+use Rattle.descriptor.specs.Line.{firstBlank, lineOf}
 use Rattle.descriptor.specs.Read.{leastBytes, mostBytes, sparse}
 use Rattle.descriptor.specs.declared.line.Setting.the-variants.{Version, Cid, ParentCid, CreateType, Sectors, Heads, Cylinders}
 use Rattle.descriptor.specs.declared.line.Said.{Said}
 use Rattle.descriptor.specs.declared.line.Said.the-variants.{Nothing, Extent, Set, Refused}
+use Rattle.descriptor.specs.declared.record.Text.{Text}
+use Rattle.descriptor.specs.declared.record.VmdkAccessType.{VmdkAccessType}
+use Rattle.descriptor.specs.declared.record.VmdkAccessType.the-variants.{RdOnly as ReadOnly, RW as ReadWrite}
+use Rattle.descriptor.specs.declared.record.VmdkParsedStorage.{VmdkParsedStorage}
+use Rattle.descriptor.specs.declared.record.VmdkParsedStorage.the-variants.{NoAccess, Zero as Zeros, Flat as File}
 use Rattle.descriptor.specs.declared.record.VmdkParsedExtent.{VmdkParsedExtent}
 
 -- a descriptor to be read by line: its length is in range, and it is no sparse file
@@ -76,6 +88,53 @@ pub record FirstRefused (t l : List ℕ) (n k : ℕ) : Type 0 where
   pub sound : AllSound (sayings 0 before)
   pub refused : RefusedWith n (length (extentsIn (sayings 0 before))) (lineOf place l)
 
+-- ---- an extent line
+-- the next word of a text from a place on is w, which ends at e
+abbrev pub NextWord : List ℕ → ℕ → List ℕ → ℕ → Type 0
+NextWord t at w e = (a : ℕ) × (wordOf t at ≡ Found a e) × (part t a e ≡ w)
+
+-- a text is cut at its first two `"`
+pub record Quotes (t before middle after : List ℕ) : Type 0 where
+  pub whole : t ≡ before ++ 0x22 ∷ (middle ++ 0x22 ∷ after)
+  pub first : count 0x22 before ≡ 0
+  pub second : count 0x22 middle ≡ 0
+
+-- the bytes that a text has in the descriptor d
+abbrev pub textIn : List ℕ → Text → List ℕ
+textIn d x = take (x .length) (drop (x .place) d)
+
+-- what stands before the first two `"` of a text is three words, the middle, trimmed, is the name, and the first word after is the start, 0 if there is none
+pub record FileIn (d t : List ℕ) (name : Text) (start : SectorCount) : Type 0 where
+  pub before : List ℕ
+  pub middle : List ℕ
+  pub after : List ℕ
+  pub quotes : Quotes t before middle after
+  pub words : threeWords before ≡ true
+  pub named : textIn d name ≡ trimmed middle
+  pub starts : fileStartOf after 0 ≡ start
+
+-- the word of an access
+abbrev pub accessText : VmdkAccessType → List ℕ
+accessText ReadOnly = ascii "RDONLY"
+accessText ReadWrite = ascii "RW"
+
+-- a trimmed line, whose first word is `access` and whose second word ends at a place, has this source
+abbrev pub SourceIn : List ℕ → List ℕ → List ℕ → ℕ → VmdkParsedStorage → Type 0
+SourceIn d t access end NoAccess = access ≡ ascii "NOACCESS"
+SourceIn d t access end (Zeros a) = (access ≡ accessText a) × ((e : ℕ) × NextWord t end (ascii "ZERO") e)
+SourceIn d t access end (File a name start) =
+    (access ≡ accessText a) × ((e : ℕ) × NextWord t end (ascii "FLAT") e) × FileIn d t name (Count start)
+
+-- a trimmed line of the descriptor d is the extent line of x: its words have the values of x
+pub record ExtentIn (d t : List ℕ) (x : VmdkParsedExtent) : Type 0 where
+  pub blank : firstBlank t < length t
+  pub second : List ℕ
+  pub end : ℕ
+  pub word : NextWord t (firstBlank t) second end
+  pub sectors : sectorsOf second ≡ Count (x .sectors)
+  pub source : SourceIn d t (take (firstBlank t) t) end (x .storage)
+
+-- ---- versions
 -- the version that the first line with one says, 0 where none does
 unfoldable pub firstVersion : List Said → ℕ
 firstVersion [] = 0
