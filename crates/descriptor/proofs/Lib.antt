@@ -11,3 +11,4 @@ pub mod Sayings
 pub mod Numbers
 pub mod Verdicts
 pub mod Trimming
+pub mod Places
