@@ -12,3 +12,4 @@ pub mod Numbers
 pub mod Verdicts
 pub mod Trimming
 pub mod Places
+pub mod ExtentLines

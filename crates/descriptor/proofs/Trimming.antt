@@ -135,9 +135,15 @@ trim-back cs bs s h =
 
 -- ---- a byte of ASCII in a sound text
 module _ (b : ℕ) (low : b ≤ 0x7F) where
-  pub encode-low : encode b ≡ b ∷ []
+  encode-low : encode b ≡ b ∷ []
   unfolding encode
   encode-low = rw (le-leb b 0x7F low)
+
+  -- a cut there is one of the encodings
+  pub encode-cut : (xs bs : List ℕ) → encodeAll (xs ++ b ∷ bs) ≡ encodeAll xs ++ b ∷ encodeAll bs
+  unfolding encodeAll
+  encode-cut [] bs = rw encode-low
+  encode-cut (x ∷ xs) bs = rw (encode-cut xs bs, append-assoc (encode x) (encodeAll xs) (b ∷ encodeAll bs))
 
   -- the encoding of another character does not hold it
   other-count : (c : ℕ) (r : List ℕ) → eqb c b ≡ false → count b (encode c ++ r) ≡ count b r
