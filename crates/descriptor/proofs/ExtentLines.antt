@@ -50,8 +50,8 @@ use Rattle.descriptor.specs.declared.record.VmdkAccessType.the-variants.
 use Rattle.descriptor.specs.declared.record.VmdkParsedExtent.{VmdkParsedExtent}
 use Rattle.descriptor.specs.declared.record.VmdkParsedStorage.{VmdkParsedStorage}
 use Rattle.descriptor.specs.declared.record.VmdkParsedStorage.the-variants.{NoAccess as Locked, Zero as Zeros, Flat as File}
-use Rattle.descriptor.proofs.Numbers.{OfKey, key-keys}
-use Rattle.descriptor.proofs.Trimming.{Trimming, trim-parts, encode-append, encode-cut, scalars-split, cut-at, blanks-free, find-none, find-behind}
+use Rattle.descriptor.proofs.Numbers.{OfKey, key-keys, four}
+use Rattle.descriptor.proofs.Trimming.{Trimming, trim-parts, encode-append, encode-cut, scalars-split, cut-at, blanks-free, count-append, find-none, find-behind}
 use Rattle.descriptor.proofs.Places.{Lies, part-lies, kept-is}
 
 -- ---- the words
@@ -210,3 +210,123 @@ module _ (d : List ℕ) (p : ℕ) (t : List ℕ) (lies : Lies d p t) where
       let w : Quotes t (encodeAll xs) (encodeAll ys) (encodeAll ks) =
       record { whole = rw (f, q₂, encode-cut 0x22 (omega arith) ys ks); first = n; second = n₂ } in
       file-by (encodeAll xs) (encodeAll ys) ks w (s₂ .1) h k))
+
+-- ---- the line
+-- an extent that is said is that of the words of the trimmed line t
+module _ (d t : List ℕ) where
+  abbrev Fine : Said → Type 0
+  Fine (Extent x) = ExtentIn d t x
+  Fine Nothing = Unit {0}
+  Fine (Set v) = Unit {0}
+  Fine (Refused n) = Unit {0}
+
+  fine-key : (s : Said) → OfKey s → Fine s
+  fine-key (Extent x) h = absurd h
+  fine-key Nothing h = tt
+  fine-key (Set v) h = tt
+  fine-key (Refused n) h = tt
+
+  fine-pick : (b : Bool) (r s : Said) → (b ≡ true → Fine r) → Fine s → Fine (pick b r s)
+  fine-pick true r s f g = f refl
+  fine-pick false r s f g = g
+
+-- a line with a blank, before which an access stands
+module _ (d : List ℕ) (p : ℕ) (t ms : List ℕ) (lies : Lies d p t) (s : scalars ms ≡ true) (e : t ≡ encodeAll ms) (b : firstBlank t < length t) where
+  locked-by : (n : Second) → secondOf t (firstBlank t) ≡ n → take (firstBlank t) t ≡ ascii "NOACCESS" → Fine d t (noAccessBy n)
+  unfolding secondOf
+  locked-by (Count c end) q k =
+      let w = second-is t (firstBlank t) (wordOf t (firstBlank t)) refl q in
+      record { blank = b; second = w .0; end = end; word = w .1; sectors = w .2; source = k }
+  locked-by Bad q k = tt
+
+  module _ (a : VmdkAccessType) (k : take (firstBlank t) t ≡ accessText a) (c : Sectors) (end : ℕ) (w : (v : List ℕ) × NextWord t (firstBlank t) v end × (sectorsOf v ≡ Sectors·Count c)) where
+    file-from : (name : Text) (after : ℕ) → fileNameOf p t ≡ Name name after → ((e : ℕ) × NextWord t end (ascii "FLAT") e) → (n : SectorCount) → fileStartOf t after ≡ n → Fine d t (flatFrom n a c (λ start. File a name start))
+    file-from name after f g (Sectors·Count start) h =
+        record { blank = b; second = w .0; end = end; word = w .1; sectors = w .2; source = (k, g, file-in d p t lies ms s e f h) }
+    file-from name after f g Sectors·Bad h = tt
+
+    file-fine : (f : FileName) → fileNameOf p t ≡ f → ((e : ℕ) × NextWord t end (ascii "FLAT") e) → Fine d t (flatBy f a c t)
+    file-fine (Name name after) f g = file-from name after f g (fileStartOf t after) refl
+    file-fine (NameRefused n) f g = tt
+
+    third-fine : (n : Third) → thirdOf t end ≡ n → Fine d t (byThird n a c p t)
+    unfolding thirdOf flatLine
+    third-fine Missing q = tt
+    third-fine Zero q =
+        record { blank = b; second = w .0; end = end; word = w .1; sectors = w .2; source = (k, third-zero t end (wordOf t end) refl q) }
+    third-fine Flat q = file-fine (fileNameOf p t) refl (third-flat t end (wordOf t end) refl q)
+    third-fine Unsupported q = tt
+
+  second-fine : (a : VmdkAccessType) → take (firstBlank t) t ≡ accessText a → (n : Second) → secondOf t (firstBlank t) ≡ n → Fine d t (bySecond n a p t)
+  unfolding secondOf
+  second-fine a k (Count c end) q =
+      third-fine a k c end (second-is t (firstBlank t) (wordOf t (firstBlank t)) refl q) (thirdOf t end) refl
+  second-fine a k Bad q = tt
+
+  access-fine : (w : AccessWord) → Access (take (firstBlank t) t) w → Fine d t (accessLine w p t (firstBlank t))
+  unfolding accessLine noAccessLine extentLine
+  access-fine NoAccess k = locked-by (secondOf t (firstBlank t)) refl k
+  access-fine RdOnly k = second-fine ReadOnly k (secondOf t (firstBlank t)) refl
+  access-fine RW k = second-fine ReadWrite k (secondOf t (firstBlank t)) refl
+  access-fine Other k = fine-key d t (keyLine p t) (key-keys p t)
+
+text-fine : (d : List ℕ) (p : ℕ) (t ms : List ℕ) → Lies d p t → scalars ms ≡ true → t ≡ encodeAll ms → Fine d t (textLine p t)
+unfolding textLine
+text-fine d p t ms l s e =
+    fine-pick d t (skipped t) Nothing _ (λ h. tt)
+    (fine-pick d t (ltb (firstBlank t) (length t)) (accessLine (accessWord (take (firstBlank t) t)) p t (firstBlank t)) (keyLine p t)
+    (λ h. access-fine d p t ms l s e (ltb-true (firstBlank t) (length t) h) (accessWord (take (firstBlank t) t)) (access-is (take (firstBlank t) t)))
+    (fine-key d t (keyLine p t) (key-keys p t)))
+
+-- what a range leaves, if trimming does not refuse the line
+pub range-is : (l : List ℕ) {a e : ℕ} → trimOf l ≡ Range a e → part l a e ≡ trimmed l
+unfolding trimmed
+range-is l q = rw q
+
+pub range-sound : (l : List ℕ) {a e : ℕ} → trimOf l ≡ Range a e → Trimming l
+range-sound l {a} {e} q =
+    trim-parts l (by-test (sound (textAt l 0)) (λ h. h)
+    (λ h. let g : Range a e ≡ Wrong = sym q ∙ trim-wrong l .1 h in let z : _≡_ {A = ℕ} 0 1 = cc in absurd (omega arith)))
+
+line-fine : (d : List ℕ) (p : ℕ) (l : List ℕ) → Lies d p l → (r : Trimmed) → trimOf l ≡ r → Fine d (trimmed l) (trimmedLine p l r)
+line-fine d p l i (Range a e) q =
+    let w = trim-within l q in
+    let c = range-sound l q in
+    let s = scalars-split (c .middle) (c .back) (scalars-split (c .front) (c .middle ++ c .back) (c .all-scalars) .1) in
+    rw (← range-is l q) (text-fine d (p + a) (part l a e) (c .middle) (part-lies d p l i a e (w .0) (w .1)) (s .0) (range-is l q ∙ c .left))
+line-fine d p l i Wrong q = tt
+
+-- a line that says an extent is its extent line
+pub extent-says : (d : List ℕ) (p : ℕ) (l : List ℕ) (x : VmdkParsedExtent) → Lies d p l → lineOf p l ≡ Extent x → ExtentIn d (trimmed l) x
+unfolding lineOf
+extent-says d p l x i h = subst (Fine d (trimmed l)) h (line-fine d p l i (trimOf l) refl)
+
+quote-blank : blank 0x22 ≡ false
+unfolding blank
+quote-blank = refl
+
+-- the first two quotes of a line are those of what trimming leaves of it
+pub quotes-line : (l before middle after : List ℕ) → sound (textAt l 0) ≡ true → Quotes (trimmed l) before middle after → (front back : List ℕ) × Quotes l (front ++ before) middle (after ++ back)
+quotes-line l before middle after h q =
+    let c = trim-parts l h in
+    let f : List ℕ = encodeAll (c .front) in
+    let b : List ℕ = encodeAll (c .back) in
+    let e : l ≡ f ++ (trimmed l ++ b) = c .whole ∙ rw (encode-append (c .front) (c .middle ++ c .back), encode-append (c .middle) (c .back), c .left) in
+    (f, b, record {
+      whole = e ∙ rw (q .whole) (simp append-assoc);
+      first = count-append 0x22 f before (blanks-free 0x22 (omega arith) (c .front) quote-blank (c .blanks .0)) (q .first);
+      second = q .second;
+    })
+
+-- a line that says an extent is sound
+said-sound : (p : ℕ) (l : List ℕ) {x : VmdkParsedExtent} → lineOf p l ≡ Extent x → sound (textAt l 0) ≡ true
+said-sound p l {x} h =
+    by-test (sound (textAt l 0)) (λ e. e)
+    (λ e. let g : Refused 4 ≡ Extent x = sym (four p l .1 e) ∙ h in let z : _≡_ {A = ℕ} 0 1 = cc in absurd (omega arith))
+
+-- the text between the first two quotes of a line that says a FLAT extent, trimmed, is the file's name
+pub file-named : (d : List ℕ) (p : ℕ) (l : List ℕ) (s : Sectors) (a : VmdkAccessType) (name : Text) (start : Sectors) → Lies d p l → lineOf p l ≡ Extent (record { sectors = s; storage = File a name start }) → (before middle after : List ℕ) × Quotes l before middle after × (textIn d name ≡ trimmed middle)
+file-named d p l s a name start i h =
+    let f = extent-says d p l (record { sectors = s; storage = File a name start }) i h .source .2 in
+    let q = quotes-line l (f .before) (f .middle) (f .after) (said-sound p l h) (f .quotes) in
+    (q .0 ++ f .before, f .middle, f .after ++ q .1, q .2, f .named)

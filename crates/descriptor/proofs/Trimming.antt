@@ -180,6 +180,13 @@ module _ (b : ℕ) (low : b ≤ 0x7F) where
       (λ e. cut-at cs (λ h. f (other-count c (encodeAll cs) e ∙ h)) (λ xs bs q h. g (c ∷ xs) bs (rw q) (other-count c (encodeAll xs) e ∙ h)))
 
 -- ---- finding a byte behind bytes that are others
+pub count-append : (b : ℕ) (l r : List ℕ) → count b l ≡ 0 → count b r ≡ 0 → count b (l ++ r) ≡ 0
+unfolding count
+count-append b [] r h k = k
+count-append b (x ∷ l) r h k =
+    by-test (eqb x b) (λ e. let g : suc (count b l) ≡ 0 = rw e at h in absurd (omega arith))
+    (λ e. rw e (count-append b l r (rw e at h) k))
+
 pub find-none : (b p : ℕ) (l : List ℕ) → count b l ≡ 0 → findFrom b p l ≡ Nowhere
 unfolding findFrom count
 find-none b p [] h = refl
