@@ -13,3 +13,4 @@ pub mod Verdicts
 pub mod Trimming
 pub mod Places
 pub mod ExtentLines
+pub mod Theorems
