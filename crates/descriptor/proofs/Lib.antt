@@ -13,4 +13,5 @@ pub mod Verdicts
 pub mod Trimming
 pub mod Places
 pub mod ExtentLines
+pub mod Versions
 pub mod Theorems

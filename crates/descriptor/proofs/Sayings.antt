@@ -38,24 +38,28 @@ from-pick : (m : ℕ) (b : Bool) (v w : Verdict) → From m v → From m w → F
 from-pick m true v w f g = f
 from-pick m false v w f g = g
 
-from-sum : (i sum : ℕ) (b : ByteCount) (go : ℕ → Verdict) → ((s : ℕ) → From 17 (go s)) → From 17 (summed i sum b go)
-from-sum i sum (Count b) go g = from-pick 17 (leb (sum + b .0) largest) (go (sum + b .0)) (refusal 19 i) (g (sum + b .0)) (omega arith)
+from-sum : (i sum : ℕ) (b : ByteCount) (go : ℕ → Verdict) → ((s : ℕ) → From 18 (go s)) → From 18 (summed i sum b go)
+from-sum i sum (Count b) go g = from-pick 18 (leb (sum + b .0) largest) (go (sum + b .0)) (refusal 19 i) (g (sum + b .0)) (omega arith)
 from-sum i sum TooLarge go g = omega arith
 
-from-sizes : (i sum : ℕ) (xs : List VmdkParsedExtent) → From 17 (sizesFrom i sum xs)
+pub from-sizes : (i sum : ℕ) (xs : List VmdkParsedExtent) → From 18 (sizesFrom i sum xs)
 unfolding sizesFrom
 from-sizes i sum [] = tt
 from-sizes i sum (x ∷ xs) = from-sum i sum (bytesOf (x .sectors)) (λ s. sizesFrom (suc i) s xs) (λ s. from-sizes (suc i) s xs)
 
-from-answer : (v : Verdict) (d : VmdkDesc) (xs : List VmdkParsedExtent) → answer v d xs .verdict ≡ v
+pub from-answer : (v : Verdict) (d : VmdkDesc) (xs : List VmdkParsedExtent) → answer v d xs .verdict ≡ v
 from-answer Sound d xs = refl
 from-answer (Stopped r) d xs = refl
+
+from-more : (v : Verdict) → From 18 v → From 17 v
+from-more Sound h = tt
+from-more (Stopped r) h = omega arith
 
 from-checked : (d : VmdkDesc) (xs : List VmdkParsedExtent) → From 17 (checked d xs .verdict)
 unfolding checked
 from-checked d xs =
     by-test (within 1 3 (d .version))
-    (λ e. rw (e, from-answer (sizesFrom 0 0 xs) d xs) (from-sizes 0 0 xs))
+    (λ e. rw (e, from-answer (sizesFrom 0 0 xs) d xs) (from-more (sizesFrom 0 0 xs) (from-sizes 0 0 xs)))
     (λ e. rw e (omega arith))
 
 -- ---- sound lines

@@ -99,6 +99,25 @@ back-codes [] bs h = rw (past-blank bs h)
 back-codes (c ∷ cs) bs h =
     by-test (blank c) (λ e. rw e (back-codes cs bs h)) (λ e. rw e (end-append (c ∷ cs) bs h))
 
+-- the first, if there is one, is no blank
+abbrev pub Firm : List ℕ → Type 0
+Firm [] = Unit {0}
+Firm (c ∷ cs) = blank c ≡ false
+
+firm-past : (cs : List ℕ) → Firm (pastCodes true cs)
+unfolding pastCodes
+firm-past [] = tt
+firm-past (c ∷ cs) = by-test (blank c) (λ e. rw e (firm-past cs)) (λ e. rw e e)
+
+-- with the first, if it is no blank, the rest is trimmed at its end
+end-firm : (c : ℕ) (cs : List ℕ) → blank c ≡ false → endCodes (c ∷ cs) ≡ c ∷ endCodes cs
+unfolding endCodes allBlank
+end-firm c cs h = rw h
+
+firm-end : (cs : List ℕ) → Firm cs → Firm (endCodes cs)
+firm-end [] h = rw (end-blank [] nothing-blank) tt
+firm-end (c ∷ cs) h = rw (end-firm c cs h) h
+
 -- ---- blanks before a text, and behind it
 -- a text's code points, with the blanks at both ends apart
 pub record Trimming (t : List ℕ) : Type 0 where
@@ -109,6 +128,7 @@ pub record Trimming (t : List ℕ) : Type 0 where
   pub all-scalars : scalars (front ++ (middle ++ back)) ≡ true
   pub whole : t ≡ encodeAll (front ++ (middle ++ back))
   pub left : trimmed t ≡ encodeAll middle
+  pub firm : Firm middle
 
 pub trim-parts : (t : List ℕ) → sound (textAt t 0) ≡ true → Trimming t
 trim-parts t h =
@@ -123,6 +143,7 @@ trim-parts t h =
       all-scalars = rw q (s .0);
       whole = rw (q, s .1);
       left = ap trimmed (sym (s .1)) ∙ trimmed-codes cs (s .0);
+      firm = firm-end (pastCodes true cs) (firm-past cs);
     }
 
 pub trim-front : (fs cs : List ℕ) → scalars (fs ++ cs) ≡ true → allBlank fs ≡ true → trimmed (encodeAll (fs ++ cs)) ≡ trimmed (encodeAll cs)
@@ -132,6 +153,33 @@ trim-front fs cs s h =
 pub trim-back : (cs bs : List ℕ) → scalars (cs ++ bs) ≡ true → allBlank bs ≡ true → trimmed (encodeAll (cs ++ bs)) ≡ trimmed (encodeAll cs)
 trim-back cs bs s h =
     trimmed-codes (cs ++ bs) s ∙ rw (back-codes cs bs h) (sym (trimmed-codes cs (scalars-split cs bs s .0)))
+
+nothing-trimmed : trimmed (encodeAll []) ≡ []
+unfolding pastCodes endCodes encodeAll scalars
+nothing-trimmed = trimmed-codes [] refl
+
+-- trimming keeps a first character that is no blank
+trim-firm : (c : ℕ) (cs : List ℕ) → blank c ≡ false → scalars (c ∷ cs) ≡ true → trimmed (encodeAll (c ∷ cs)) ≡ encode c ++ encodeAll (endCodes cs)
+unfolding pastCodes encodeAll
+trim-firm c cs h s = trimmed-codes (c ∷ cs) s ∙ rw (h, end-firm c cs h)
+
+encode-some : (c : ℕ) → 0 < length (encode c)
+unfolding encode
+encode-some c =
+    by-test (leb c 0x7F) (λ e. rw e (omega arith))
+    (λ e. by-test (leb c 0x7FF) (λ f. rw (e, f) (omega arith))
+    (λ f. by-test (leb c 0xFFFF) (λ g. rw (e, f, g) (omega arith)) (λ g. rw (e, f, g) (omega arith))))
+
+head-same : (k x y : List ℕ) {b : ℕ} {r : List ℕ} → 0 < length k → k ++ x ≡ b ∷ r → (q : List ℕ) × (k ++ y ≡ b ∷ q)
+head-same [] x y h e = absurd (omega arith)
+head-same (a ∷ k) x y {b} {r} h e = let f : a ≡ b = cc in (k ++ y, rw f)
+
+-- so a text starts as what trimming leaves of a part in front of it
+pub first-byte : (cs ds : List ℕ) {b : ℕ} {r : List ℕ} → Firm (cs ++ ds) → scalars cs ≡ true → trimmed (encodeAll cs) ≡ b ∷ r → (q : List ℕ) × (encodeAll (cs ++ ds) ≡ b ∷ q)
+unfolding encodeAll
+first-byte [] ds {b} {r} f s e = let g : [] ≡ b ∷ r = sym nothing-trimmed ∙ e in let z : _≡_ {A = ℕ} 0 1 = cc in absurd (omega arith)
+first-byte (c ∷ cs) ds f s e =
+    head-same (encode c) (encodeAll (endCodes cs)) (encodeAll (cs ++ ds)) (encode-some c) (sym (trim-firm c cs f s) ∙ e)
 
 -- ---- a byte of ASCII in a sound text
 module _ (b : ℕ) (low : b ≤ 0x7F) where

@@ -135,7 +135,7 @@ pub record ExtentIn (d t : List ℕ) (x : VmdkParsedExtent) : Type 0 where
   pub source : SourceIn d t (take (firstBlank t) t) end (x .storage)
 
 -- ---- versions
--- the version that the first line with one says, 0 where none does
+-- the version that the first line with the key `version` says, 0 where there is none
 unfoldable pub firstVersion : List Said → ℕ
 firstVersion [] = 0
 firstVersion (Set (Version v) ∷ ss) = v
@@ -148,3 +148,20 @@ firstVersion (Set (Cylinders n) ∷ ss) = firstVersion ss
 firstVersion (Nothing ∷ ss) = firstVersion ss
 firstVersion (Extent x ∷ ss) = firstVersion ss
 firstVersion (Refused n ∷ ss) = firstVersion ss
+
+-- the version that the last one says, u where there is none
+unfoldable pub versionAfter : ℕ → List Said → ℕ
+versionAfter u [] = u
+versionAfter u (Set (Version v) ∷ ss) = versionAfter v ss
+versionAfter u (Set (Cid x) ∷ ss) = versionAfter u ss
+versionAfter u (Set (ParentCid x) ∷ ss) = versionAfter u ss
+versionAfter u (Set (CreateType x) ∷ ss) = versionAfter u ss
+versionAfter u (Set (Sectors n) ∷ ss) = versionAfter u ss
+versionAfter u (Set (Heads n) ∷ ss) = versionAfter u ss
+versionAfter u (Set (Cylinders n) ∷ ss) = versionAfter u ss
+versionAfter u (Nothing ∷ ss) = versionAfter u ss
+versionAfter u (Extent x ∷ ss) = versionAfter u ss
+versionAfter u (Refused n ∷ ss) = versionAfter u ss
+
+abbrev pub lastVersion : List Said → ℕ
+lastVersion ss = versionAfter 0 ss
