@@ -23,12 +23,13 @@ use Rattle.text.specs.declared.find.Place.the-variants.{Here, Nowhere}
 use Rattle.text.specs.declared.number.Num.{Num}
 use Rattle.text.specs.declared.number.Num.the-variants.{Value, Bad}
 use Rattle.text.proofs.Flat.{by-test}
+use Rattle.descriptor.specs.Record.{noDesc, refusal}
 use Rattle.descriptor.specs.Key.{ascii, keyOf, geometryKey}
 use Rattle.descriptor.specs.Extent.{part, noAccessLine, extentLine}
 use Rattle.descriptor.specs.Line.{versionLimit, versionBy, versionOf, geometryOf, geometryBy, geometryLine, valueOf, keyLine, accessWord, accessLine, firstBlank, skipped, textLine, trimmedLine, lineOf}
-use Rattle.descriptor.specs.Read.{leastBytes, mostBytes}
+use Rattle.descriptor.specs.Read.{leastBytes, mostBytes, setOf, sizesFrom, checked, readOf}
 use Rattle.descriptor.specs.Probe.{verdictOf, probeKey, probeLine, firstAnswer, probeLines, probeOf}
-use Rattle.descriptor.specs.Statements.{ByLine, sayings, sayingsOf, refuses, firstVersion}
+use Rattle.descriptor.specs.Statements.{ByLine, sayings, sayingsOf, extentsIn, refuses, AllSound, firstVersion, versionAfter, lastVersion}
 use Rattle.descriptor.specs.declared.key.Key.{Key}
 use Rattle.descriptor.specs.declared.key.Key.the-variants.{Version, Cid, ParentCid, CreateType, ParentFileNameHint, Geometry as Geometry·Key, Ddb, Unknown}
 use Rattle.descriptor.specs.declared.key.Geometry.{Geometry}
@@ -42,8 +43,14 @@ use Rattle.descriptor.specs.declared.line.AccessWord.the-variants.{NoAcc
 use Rattle.descriptor.specs.declared.record.VmdkAccessType.the-variants.{RdOnly as ReadOnly, RW as ReadWrite}
 use Rattle.descriptor.specs.declared.probe.Probed.{Probed}
 use Rattle.descriptor.specs.declared.probe.Probed.the-variants.{Pass, Answer}
+use Rattle.descriptor.specs.declared.record.Verdict.the-variants.{Sound}
+use Rattle.descriptor.specs.declared.record.VmdkDesc.{VmdkDesc}
+use Rattle.descriptor.specs.declared.record.VmdkParsedExtent.{VmdkParsedExtent}
+use Rattle.descriptor.specs.declared.read.Read.{Read}
 use Rattle.descriptor.proofs.Numbers.{OfExtent, extent-locked-line, extent-line}
 use Rattle.descriptor.proofs.Trimming.{Trimming, Firm, trim-front, trim-back, first-byte, encode-append, encode-cut, scalars-split, cut-at, blanks-free, count-append, find-none, find-behind}
+use Rattle.descriptor.proofs.Sayings.{From, from-sizes, from-answer, setAll}
+use Rattle.descriptor.proofs.Verdicts.{late, lines-sound, lines-checked, accepted-lines, checked-sound}
 use Rattle.descriptor.proofs.ExtentLines.{same-is, range-is, range-sound}
 
 -- ---- what says no version
@@ -347,3 +354,63 @@ pub probe-first : (t : List ℕ) → ByLine t → refuses (sayingsOf t) ≡ fals
 unfolding probeOf
 probe-first t b h =
     rw (le-ltb (length t) leastBytes (b .least), le-ltb mostBytes (length t) (b .small), b .plain) (lines-probed 0 (linesOf t) h)
+
+-- ---- with reading
+-- the version after some lines is the last that they say
+version-set : (d : VmdkDesc) (ss : List Said) → setAll d ss .version ≡ versionAfter (d .version) ss
+unfolding setAll setOf versionAfter
+version-set d [] = refl
+version-set d (Set (Is·Version v) ∷ ss) = version-set (setOf d (Is·Version v)) ss
+version-set d (Set (Is·Cid x) ∷ ss) = version-set (setOf d (Is·Cid x)) ss
+version-set d (Set (Is·ParentCid x) ∷ ss) = version-set (setOf d (Is·ParentCid x)) ss
+version-set d (Set (Is·CreateType x) ∷ ss) = version-set (setOf d (Is·CreateType x)) ss
+version-set d (Set (Is·Sectors n) ∷ ss) = version-set (setOf d (Is·Sectors n)) ss
+version-set d (Set (Is·Heads n) ∷ ss) = version-set (setOf d (Is·Heads n)) ss
+version-set d (Set (Is·Cylinders n) ∷ ss) = version-set (setOf d (Is·Cylinders n)) ss
+version-set d (Nothing ∷ ss) = version-set d ss
+version-set d (Extent x ∷ ss) = version-set d ss
+version-set d (Refused n ∷ ss) = version-set d ss
+
+-- after the lines 17 is answered exactly if the version is not 1 to 3
+version-checked : (d : VmdkDesc) (xs : List VmdkParsedExtent) → (checked d xs .verdict ≡ refusal 17 0) ↔ (within 1 3 (d .version) ≡ false)
+unfolding checked
+version-checked d xs = (
+  λ h. by-test (within 1 3 (d .version))
+      (λ e. let g : sizesFrom 0 0 xs ≡ refusal 17 0 = sym (from-answer (sizesFrom 0 0 xs) d xs) ∙ (rw e at h) in
+      let f : 18 ≤ 17 = subst (From 18) g (from-sizes 0 0 xs) in
+      absurd (omega arith))
+      (λ e. e),
+  λ e. rw e,
+)
+
+module _ (t : List ℕ) where
+  -- an accepted descriptor is probed by its first version
+  pub probe-accepted : readOf t .verdict ≡ Sound → probeOf t ≡ within 1 3 (firstVersion (sayingsOf t))
+  probe-accepted h = let a = accepted-lines t h in probe-first t (a .0) (a .1 .0)
+
+  -- and its last version is 1 to 3
+  pub last-accepted : readOf t .verdict ≡ Sound → within 1 3 (lastVersion (sayingsOf t)) ≡ true
+  last-accepted h =
+      let a = accepted-lines t h in
+      let q = lines-checked t (a .0) (a .1) in
+      let r = checked-sound (setAll noDesc (sayingsOf t)) (extentsIn (sayingsOf t)) (ap (λ (x : Read). x .verdict) (sym q) ∙ h) in
+      rw (version-set noDesc (sayingsOf t)) at (r .0)
+
+  -- 17 is answered exactly if every line is sound and the last version is not 1 to 3
+  pub last-refused : (readOf t .verdict ≡ refusal 17 0) ↔ (ByLine t × AllSound (sayingsOf t) × (within 1 3 (lastVersion (sayingsOf t)) ≡ false))
+  last-refused = (
+    λ h. let b = late t 17 0 (omega arith) h in
+        let f : 17 ≤ 17 = omega arith in
+        let a = lines-sound t b (subst (From 17) (sym h) f) in
+        let q = ap (λ (x : Read). x .verdict) (sym (lines-checked t b a)) ∙ h in
+        (b, a, rw (version-set noDesc (sayingsOf t)) at (version-checked (setAll noDesc (sayingsOf t)) (extentsIn (sayingsOf t)) .0 q)),
+    λ w. rw (lines-checked t (w .0) (w .1))
+        (version-checked (setAll noDesc (sayingsOf t)) (extentsIn (sayingsOf t)) .1 (rw (version-set noDesc (sayingsOf t)) (w .2))),
+  )
+
+  -- 17, where probing says yes
+  pub probe-refused : ((readOf t .verdict ≡ refusal 17 0) × (probeOf t ≡ true)) ↔ (ByLine t × AllSound (sayingsOf t) × (within 1 3 (firstVersion (sayingsOf t)) ≡ true) × (within 1 3 (lastVersion (sayingsOf t)) ≡ false))
+  probe-refused = (
+    λ w. let a = last-refused .0 (w .0) in (a .0, a .1, sym (probe-first t (a .0) (a .1 .0)) ∙ w .1, a .2),
+    λ w. (last-refused .1 (w .0, w .1, w .3), probe-first t (w .0) (w .1 .0) ∙ w .2),
+  )
