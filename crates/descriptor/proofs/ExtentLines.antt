@@ -1,15 +1,14 @@
 -- An extent line says an extent only by the way on which each word was read, so the words have the extent's values.
 -- Its `"` are characters of their own: the cuts there leave sound texts, and the first word after them is that of the text alone.
-use Prim.Native.Nat.{ℕ, suc, _+_, _-_, _≤_, _<_}
+use Prim.Native.Nat.{ℕ, _+_, _-_, _≤_, _<_}
 use native.Mathlib.Omega.{arith}
-use native.Mathlib.Numerals.{add-one}
 use mathlib.Core.List.{List, [], _∷_, _++_, append-assoc}
 use mathlib.Core.Bool.{Bool, true, false}
 use mathlib.Core.Path.{_≡_, refl, sym, ap, subst, _∙_}
 use lib.ListN.{length, take, drop, length-append}
-use lib.Dec.{eqb, ltb}
-use lib.Seq.{take-append-seam, drop-append-seam, drop-append-add, drop-drop}
-use borrow.Author.Tests.{eqb-true, ltb-true}
+use lib.Dec.{ltb}
+use lib.Seq.{take-append-seam, drop-append-add, drop-drop}
+use borrow.Author.Tests.{ltb-true}
 use Rattle.text.specs.Ranges.{pick}
 use Rattle.text.specs.Blank.{blank}
 use Rattle.text.specs.Find.{findFrom, findAt, same}
@@ -21,19 +20,20 @@ use Rattle.text.specs.declared.words.Trimmed.{Trimmed}
 use Rattle.text.specs.declared.words.Trimmed.the-variants.{Range, Wrong}
 use Rattle.text.specs.declared.words.Word.{Word}
 use Rattle.text.specs.declared.words.Word.the-variants.{Found, None}
-use Rattle.text.specs.declared.find.Place.the-variants.{Here, Nowhere}
+use Rattle.text.specs.declared.find.Place.the-variants.{Here}
 use Rattle.text.specs.declared.sector.Sectors.{Sectors}
 use Rattle.text.specs.declared.sector.SectorCount.{SectorCount}
 use Rattle.text.specs.declared.sector.SectorCount.the-variants.{Count as Sectors·Count, Bad as Sectors·Bad}
 use Rattle.text.proofs.Flat.{by-test}
 use Rattle.text.proofs.Trims.{trim-wrong}
+use Rattle.text.proofs.Finds.{same-is}
 use Rattle.text.proofs.Bounds.{trim-within}
 use Rattle.text.proofs.Spellings.{word-none-codes, word-some-codes}
 use Rattle.descriptor.specs.Key.{ascii}
 use Rattle.descriptor.specs.Kept.{keptOf}
-use Rattle.descriptor.specs.Extent.{part, countedWord, secondWord, secondOf, thirdWord, thirdOf, threeWords, betweenQuotes, afterQuote, fileNameOf, startWord, fileStartOf, flatFrom, flatBy, flatLine, noAccessBy, noAccessLine, byThird, bySecond, extentLine}
+use Rattle.descriptor.specs.Extent.{part, countedWord, secondWord, secondOf, thirdWord, thirdOf, threeWords, fileNameOf, startWord, fileStartOf, flatFrom, flatBy, flatLine, noAccessBy, noAccessLine, byThird, bySecond, extentLine}
 use Rattle.descriptor.specs.Line.{keyLine, accessWord, accessLine, firstBlank, skipped, textLine, trimmedLine, lineOf}
-use Rattle.descriptor.specs.Statements.{NextWord, Quotes, textIn, FileIn, accessText, SourceIn, ExtentIn}
+use Rattle.descriptor.specs.Statements.{NextWord, Quotes, textIn, FileIn, accessText, ExtentIn}
 use Rattle.descriptor.specs.declared.extent.Second.{Second}
 use Rattle.descriptor.specs.declared.extent.Second.the-variants.{Count, Bad}
 use Rattle.descriptor.specs.declared.extent.Third.{Third}
@@ -48,22 +48,12 @@ use Rattle.descriptor.specs.declared.record.Text.{Text}
 use Rattle.descriptor.specs.declared.record.VmdkAccessType.{VmdkAccessType}
 use Rattle.descriptor.specs.declared.record.VmdkAccessType.the-variants.{RdOnly as ReadOnly, RW as ReadWrite}
 use Rattle.descriptor.specs.declared.record.VmdkParsedExtent.{VmdkParsedExtent}
-use Rattle.descriptor.specs.declared.record.VmdkParsedStorage.{VmdkParsedStorage}
-use Rattle.descriptor.specs.declared.record.VmdkParsedStorage.the-variants.{NoAccess as Locked, Zero as Zeros, Flat as File}
+use Rattle.descriptor.specs.declared.record.VmdkParsedStorage.the-variants.{Flat as File}
 use Rattle.descriptor.proofs.Numbers.{OfKey, key-keys, four}
-use Rattle.descriptor.proofs.Trimming.{Trimming, trim-parts, encode-append, encode-cut, scalars-split, cut-at, blanks-free, count-append, find-none, find-behind}
+use Rattle.text.proofs.Trimming.{Trimming, trim-parts, encode-append, encode-cut, scalars-split, cut-at, blanks-free, count-append, find-none, find-behind}
 use Rattle.descriptor.proofs.Places.{Lies, part-lies, kept-is}
 
 -- ---- the words
-pub same-is : (t k : List ℕ) → same t k ≡ true → t ≡ k
-unfolding same
-same-is [] [] h = refl
-same-is [] (y ∷ k) h = let z : _≡_ {A = ℕ} 0 1 = cc in absurd (omega arith)
-same-is (x ∷ t) [] h = let z : _≡_ {A = ℕ} 0 1 = cc in absurd (omega arith)
-same-is (x ∷ t) (y ∷ k) h =
-    by-test (eqb x y) (λ e. let q : x ≡ y = eqb-true x y e in rw (q, same-is t k (rw e at h)))
-    (λ e. let g : false ≡ true = rw e at h in let z : _≡_ {A = ℕ} 0 1 = cc in absurd (omega arith))
-
 count-is : (v : List ℕ) (b : ℕ) (c : SectorCount) → sectorsOf v ≡ c → {s : Sectors} {e : ℕ} → countedWord c b ≡ Count s e → (b ≡ e) × (sectorsOf v ≡ Sectors·Count s)
 count-is v b (Sectors·Count n) q {s} {e} h = let f : b ≡ e = cc in let g : n ≡ s = cc in (f, q ∙ ap Sectors·Count g)
 count-is v b Sectors·Bad q h = let z : _≡_ {A = ℕ} 0 1 = cc in absurd (omega arith)
@@ -311,12 +301,15 @@ quotes-line l before middle after h q =
     let c = trim-parts l h in
     let f : List ℕ = encodeAll (c .front) in
     let b : List ℕ = encodeAll (c .back) in
-    let e : l ≡ f ++ (trimmed l ++ b) = c .whole ∙ rw (encode-append (c .front) (c .middle ++ c .back), encode-append (c .middle) (c .back), c .left) in
-    (f, b, record {
-      whole = e ∙ rw (q .whole) (simp append-assoc);
-      first = count-append 0x22 f before (blanks-free 0x22 (omega arith) (c .front) quote-blank (c .blanks .0)) (q .first);
-      second = q .second;
-    })
+    let e : l ≡ f ++ (trimmed l ++ b) = c .whole ∙ rw (encode-append (c .front) (c .middle ++ c .back), encode-append (c .middle) (c .back), c .left) in (
+      f,
+      b,
+      record {
+        whole = e ∙ rw (q .whole) (simp append-assoc);
+        first = count-append 0x22 f before (blanks-free 0x22 (omega arith) (c .front) quote-blank (c .blanks .0)) (q .first);
+        second = q .second;
+      },
+    )
 
 -- a line that says an extent is sound
 said-sound : (p : ℕ) (l : List ℕ) {x : VmdkParsedExtent} → lineOf p l ≡ Extent x → sound (textAt l 0) ≡ true

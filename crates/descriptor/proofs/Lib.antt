@@ -10,7 +10,6 @@ pub mod Refusals
 pub mod Sayings
 pub mod Numbers
 pub mod Verdicts
-pub mod Trimming
 pub mod Places
 pub mod ExtentLines
 pub mod Versions

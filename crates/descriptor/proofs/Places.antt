@@ -3,14 +3,13 @@
 use Prim.Native.Nat.{ℕ, zero, suc, _+_, _-_, _≤_}
 use native.Mathlib.Omega.{arith}
 use mathlib.Core.List.{List, [], _∷_, _++_}
-use mathlib.Core.Bool.{true, false}
 use mathlib.Core.Path.{_≡_, refl, sym, ap, _∙_}
 use lib.ListN.{length, take, drop, length-take, length-drop}
 use lib.Dec.{eqb}
-use lib.Seq.{take-all, take-take, take-append-seam, take-nil, drop-nil, drop-append-add, drop-drop}
+use lib.Seq.{take-all, take-take, take-append-seam, take-nil, drop-append-add, drop-drop}
 use borrow.Author.Tests.{eqb-true}
 use Rattle.text.specs.Text.{trimOf, trimmed}
-use Rattle.text.specs.Lines.{linesOf, joinLines}
+use Rattle.text.specs.Lines.{joinLines}
 use Rattle.text.specs.declared.words.Trimmed.{Trimmed}
 use Rattle.text.specs.declared.words.Trimmed.the-variants.{Range, Wrong}
 use Rattle.text.proofs.Flat.{by-test}

@@ -3,7 +3,6 @@
 use Prim.Native.Nat.{ℕ, suc, _+_, _≤_, _<_}
 use native.Mathlib.Omega.{arith}
 use mathlib.Core.List.{List, [], _∷_, _++_, append-assoc, append-nil}
-use mathlib.Core.Logic.{_↔_}
 use mathlib.Core.Bool.{Bool, true, false}
 use mathlib.Core.Path.{_≡_, refl, sym, ap, subst, _∙_}
 use lib.ListN.{length, length-append}
@@ -16,7 +15,7 @@ use Rattle.text.specs.declared.sector.ByteCount.the-variants.{Count, TooLarge}
 use Rattle.text.proofs.Flat.{by-test}
 use Rattle.descriptor.specs.Record.{most, refusal}
 use Rattle.descriptor.specs.Line.{lineOf}
-use Rattle.descriptor.specs.Read.{answer, refusedRead, setOf, summed, sizesFrom, checked, byLine, readLines}
+use Rattle.descriptor.specs.Read.{answer, setOf, summed, sizesFrom, checked, byLine, readLines}
 use Rattle.descriptor.specs.Statements.{placeAfter, sayings, extentsIn, refuses, RefusedWith}
 use Rattle.descriptor.specs.declared.line.Said.{Said}
 use Rattle.descriptor.specs.declared.line.Said.the-variants.{Nothing, Extent, Set, Refused}

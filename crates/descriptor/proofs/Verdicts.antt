@@ -1,15 +1,15 @@
 -- Outside the lines a descriptor is refused with 1, 2 or 3 before them and 17, 18 or 19 after them.
 -- So a number between is a line's, and the first line that is refused gives it.
-use Prim.Native.Nat.{ℕ, suc, _+_, _-_, _≤_, _<_}
+use Prim.Native.Nat.{ℕ, _+_, _-_, _≤_}
 use native.Mathlib.Omega.{arith}
-use mathlib.Core.List.{List, [], _∷_, _++_}
+use mathlib.Core.List.{List, []}
 use mathlib.Core.Logic.{_↔_}
-use mathlib.Core.Bool.{Bool, true, false}
+use mathlib.Core.Bool.{true, false}
 use mathlib.Core.Path.{_≡_, refl, sym, ap, subst, _∙_}
 use lib.ListN.{length, replicate}
 use lib.Seq.{take-append-seam}
 use lib.Dec.{ltb}
-use borrow.Author.Tests.{le-ltb, ltb-true, ltb-false}
+use borrow.Author.Tests.{le-ltb, ltb-false}
 use Rattle.text.specs.Ranges.{within}
 use Rattle.text.specs.Find.{begins}
 use Rattle.text.specs.Lines.{linesOf}
@@ -18,7 +18,7 @@ use Rattle.text.proofs.Flat.{by-test}
 use Rattle.descriptor.specs.Record.{most, noExtent, noDesc, filled, recordOf, counted, refusal}
 use Rattle.descriptor.specs.Line.{lineOf}
 use Rattle.descriptor.specs.Read.{leastBytes, mostBytes, sparse, answer, sizesFrom, checked, readLines, readOf}
-use Rattle.descriptor.specs.Statements.{ByLine, placeAfter, sayings, sayingsOf, extentsIn, AllSound, RefusedWith, LineAt, FirstRefused}
+use Rattle.descriptor.specs.Statements.{ByLine, placeAfter, sayings, sayingsOf, extentsIn, AllSound, RefusedWith, FirstRefused}
 use Rattle.descriptor.specs.declared.line.Said.{Said}
 use Rattle.descriptor.specs.declared.line.Said.the-variants.{Nothing, Extent, Set, Refused}
 use Rattle.descriptor.specs.declared.record.Verdict.{Verdict}
@@ -49,14 +49,16 @@ late t n k h e = by-size t (λ b. b) (λ m l q. let r = never n k m 0 (sym q ∙
 -- the first line that is refused, as it is stated and as it is found
 found-first : (t : List ℕ) (n k : ℕ) → Stops 1 0 0 (linesOf t) n k → (l : List ℕ) × FirstRefused t l n k
 found-first t n k s =
-    let q : 0 + length (extentsIn (sayings 0 (s .before))) ≡ length (extentsIn (sayings 0 (s .before))) = omega arith in
-    (s .line, record {
-      before = s .before;
-      place = placeAfter 0 (s .before);
-      line = record { after = s .after; lines = s .lines; place = refl; number = let i = s .number in omega arith };
-      sound = (s .none, let f = s .few in omega arith);
-      refused = rw q at (s .refused);
-    })
+    let q : 0 + length (extentsIn (sayings 0 (s .before))) ≡ length (extentsIn (sayings 0 (s .before))) = omega arith in (
+      s .line,
+      record {
+        before = s .before;
+        place = placeAfter 0 (s .before);
+        line = record { after = s .after; lines = s .lines; place = refl; number = let i = s .number in omega arith };
+        sound = (s .none, let f = s .few in omega arith);
+        refused = rw q at (s .refused);
+      },
+    )
 
 first-found : (t l : List ℕ) (n k : ℕ) → FirstRefused t l n k → Stops 1 0 0 (linesOf t) n k
 first-found t l n k s =

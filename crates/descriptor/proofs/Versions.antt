@@ -1,32 +1,33 @@
 -- A line's first `=` is that of what trimming leaves of it, and blanks at the ends change neither its key nor its value once these are trimmed.
 -- So on a line that is not refused probing answers by the version that reading sets, and passes over any other.
-use Prim.Native.Nat.{ℕ, zero, suc, _+_, _-_, _≤_, _<_}
+use Prim.Native.Nat.{ℕ, zero, suc, _+_, _≤_}
 use native.Mathlib.Omega.{arith}
 use mathlib.Core.List.{List, [], _∷_, _++_, append-assoc}
 use mathlib.Core.Logic.{_↔_}
 use mathlib.Core.Bool.{Bool, true, false}
 use mathlib.Core.Path.{_≡_, refl, sym, ap, subst, _∙_}
-use lib.ListN.{length, take, drop, getD}
+use lib.ListN.{length, take, drop}
 use lib.Dec.{eqb, ltb}
 use lib.Seq.{take-append-seam, drop-append-add}
 use borrow.Author.Tests.{ne-eqb, le-ltb}
 use Rattle.text.specs.Ranges.{pick, within}
 use Rattle.text.specs.Blank.{blank}
-use Rattle.text.specs.Find.{findFrom, findAt, same, begins}
+use Rattle.text.specs.Find.{findAt, same, begins}
 use Rattle.text.specs.Lines.{count, linesOf}
 use Rattle.text.specs.Text.{trimOf, trimmed}
 use Rattle.text.specs.Unicode.{scalars, encodeAll}
 use Rattle.text.specs.Number.{numberOf}
 use Rattle.text.specs.declared.words.Trimmed.{Trimmed}
 use Rattle.text.specs.declared.words.Trimmed.the-variants.{Range, Wrong}
-use Rattle.text.specs.declared.find.Place.the-variants.{Here, Nowhere}
+use Rattle.text.specs.declared.find.Place.the-variants.{Here}
 use Rattle.text.specs.declared.number.Num.{Num}
 use Rattle.text.specs.declared.number.Num.the-variants.{Value, Bad}
 use Rattle.text.proofs.Flat.{by-test}
+use Rattle.text.proofs.Finds.{same-is}
 use Rattle.descriptor.specs.Record.{noDesc, refusal}
 use Rattle.descriptor.specs.Key.{ascii, keyOf, geometryKey}
 use Rattle.descriptor.specs.Extent.{part, noAccessLine, extentLine}
-use Rattle.descriptor.specs.Line.{versionLimit, versionBy, versionOf, geometryOf, geometryBy, geometryLine, valueOf, keyLine, accessWord, accessLine, firstBlank, skipped, textLine, trimmedLine, lineOf}
+use Rattle.descriptor.specs.Line.{versionLimit, versionBy, versionOf, geometryOf, geometryBy, geometryLine, valueOf, keyLine, accessWord, accessLine, firstBlank, skipped, textLine, lineOf}
 use Rattle.descriptor.specs.Read.{leastBytes, mostBytes, setOf, sizesFrom, checked, readOf}
 use Rattle.descriptor.specs.Probe.{verdictOf, probeKey, probeLine, firstAnswer, probeLines, probeOf}
 use Rattle.descriptor.specs.Statements.{ByLine, sayings, sayingsOf, extentsIn, refuses, AllSound, firstVersion, versionAfter, lastVersion}
@@ -34,7 +35,6 @@ use Rattle.descriptor.specs.declared.key.Key.{Key}
 use Rattle.descriptor.specs.declared.key.Key.the-variants.{Version, Cid, ParentCid, CreateType, ParentFileNameHint, Geometry as Geometry·Key, Ddb, Unknown}
 use Rattle.descriptor.specs.declared.key.Geometry.{Geometry}
 use Rattle.descriptor.specs.declared.key.Geometry.the-variants.{Sectors, Heads, Cylinders}
-use Rattle.descriptor.specs.declared.line.Setting.{Setting}
 use Rattle.descriptor.specs.declared.line.Setting.the-variants.{Version as Is·Version, Cid as Is·Cid, ParentCid as Is·ParentCid, CreateType as Is·CreateType, Sectors as Is·Sectors, Heads as Is·Heads, Cylinders as Is·Cylinders}
 use Rattle.descriptor.specs.declared.line.Said.{Said}
 use Rattle.descriptor.specs.declared.line.Said.the-variants.{Nothing, Extent, Set, Refused}
@@ -48,10 +48,10 @@ use Rattle.descriptor.specs.declared.record.VmdkDesc.{VmdkDesc}
 use Rattle.descriptor.specs.declared.record.VmdkParsedExtent.{VmdkParsedExtent}
 use Rattle.descriptor.specs.declared.read.Read.{Read}
 use Rattle.descriptor.proofs.Numbers.{OfExtent, extent-locked-line, extent-line}
-use Rattle.descriptor.proofs.Trimming.{Trimming, Firm, trim-front, trim-back, first-byte, encode-append, encode-cut, scalars-split, cut-at, blanks-free, count-append, find-none, find-behind}
+use Rattle.text.proofs.Trimming.{Trimming, trim-front, trim-back, first-byte, encode-append, encode-cut, scalars-split, cut-at, blanks-free, count-append, find-none, find-behind}
 use Rattle.descriptor.proofs.Sayings.{From, from-sizes, from-answer, setAll}
 use Rattle.descriptor.proofs.Verdicts.{late, lines-sound, lines-checked, accepted-lines, checked-sound}
-use Rattle.descriptor.proofs.ExtentLines.{same-is, range-is, range-sound}
+use Rattle.descriptor.proofs.ExtentLines.{range-is, range-sound}
 
 -- ---- what says no version
 abbrev NoVersion : Said → Type 0

@@ -1,23 +1,23 @@
 -- What trimming takes away is blanks, so blanks that are put before or behind a text change nothing of what it leaves.
 -- A byte of ASCII stands in a sound text only as a character of its own, so a cut there leaves sound texts, and no blank holds it.
-use Prim.Native.Nat.{ℕ, suc, _+_, _/_, _%_, _≤_, _<_}
+use Prim.Native.Nat.{ℕ, suc, _+_, _/_, _≤_, _<_}
 use native.Mathlib.Omega.{arith}
 use mathlib.Core.List.{List, [], _∷_, _++_, append-assoc}
-use mathlib.Core.Bool.{Bool, true, false}
-use mathlib.Core.Path.{_≡_, refl, sym, ap, subst, _∙_}
+use mathlib.Core.Bool.{true, false}
+use mathlib.Core.Path.{_≡_, refl, sym, ap, _∙_}
 use lib.ListN.{length}
 use lib.Dec.{leb, eqb}
-use borrow.Author.Tests.{eq-eqb, ne-eqb, eqb-true, eqb-false, le-leb, leb-true, leb-false}
+use borrow.Author.Tests.{eq-eqb, ne-eqb, eqb-true, le-leb, leb-false}
 use Rattle.text.specs.Ranges.{pick}
 use Rattle.text.specs.Blank.{blank}
 use Rattle.text.specs.Find.{findFrom}
 use Rattle.text.specs.Lines.{count}
-use Rattle.text.specs.Text.{textAt, sound, codes, alike, trimmed, runCodes, pastCodes, allBlank, endCodes, trimCodes}
+use Rattle.text.specs.Text.{textAt, sound, codes, trimmed, runCodes, pastCodes, allBlank, endCodes, trimCodes}
 use Rattle.text.specs.Unicode.{scalar, encode, trailing, scalars, encodeAll}
 use Rattle.text.specs.declared.find.Place.the-variants.{Here, Nowhere}
 use Rattle.text.proofs.Flat.{by-test}
 use Rattle.text.proofs.Sequences.{sound-cut}
-use Rattle.text.proofs.Spellings.{trimmed-codes}
+use Rattle.text.proofs.Spellings.{end-blank, Open, past-open, trimmed-codes, encode-some}
 
 -- ---- the code points of a text, and those that trimming takes away
 pub encode-append : (xs bs : List ℕ) → encodeAll (xs ++ bs) ≡ encodeAll xs ++ encodeAll bs
@@ -66,11 +66,6 @@ unfolding allBlank
 blank-append [] bs h = h
 blank-append (c ∷ cs) bs h = rw (blank-append cs bs h)
 
-end-blank : (cs : List ℕ) → allBlank cs ≡ true → endCodes cs ≡ []
-unfolding endCodes
-end-blank [] e = refl
-end-blank (c ∷ cs) e = rw e
-
 past-blank : (cs : List ℕ) → allBlank cs ≡ true → pastCodes true cs ≡ []
 unfolding pastCodes allBlank
 past-blank [] h = refl
@@ -99,22 +94,12 @@ back-codes [] bs h = rw (past-blank bs h)
 back-codes (c ∷ cs) bs h =
     by-test (blank c) (λ e. rw e (back-codes cs bs h)) (λ e. rw e (end-append (c ∷ cs) bs h))
 
--- the first, if there is one, is no blank
-abbrev pub Firm : List ℕ → Type 0
-Firm [] = Unit {0}
-Firm (c ∷ cs) = blank c ≡ false
-
-firm-past : (cs : List ℕ) → Firm (pastCodes true cs)
-unfolding pastCodes
-firm-past [] = tt
-firm-past (c ∷ cs) = by-test (blank c) (λ e. rw e (firm-past cs)) (λ e. rw e e)
-
 -- with the first, if it is no blank, the rest is trimmed at its end
 end-firm : (c : ℕ) (cs : List ℕ) → blank c ≡ false → endCodes (c ∷ cs) ≡ c ∷ endCodes cs
 unfolding endCodes allBlank
 end-firm c cs h = rw h
 
-firm-end : (cs : List ℕ) → Firm cs → Firm (endCodes cs)
+firm-end : (cs : List ℕ) → Open cs → Open (endCodes cs)
 firm-end [] h = rw (end-blank [] nothing-blank) tt
 firm-end (c ∷ cs) h = rw (end-firm c cs h) h
 
@@ -128,7 +113,7 @@ pub record Trimming (t : List ℕ) : Type 0 where
   pub all-scalars : scalars (front ++ (middle ++ back)) ≡ true
   pub whole : t ≡ encodeAll (front ++ (middle ++ back))
   pub left : trimmed t ≡ encodeAll middle
-  pub firm : Firm middle
+  pub firm : Open middle
 
 pub trim-parts : (t : List ℕ) → sound (textAt t 0) ≡ true → Trimming t
 trim-parts t h =
@@ -143,7 +128,7 @@ trim-parts t h =
       all-scalars = rw q (s .0);
       whole = rw (q, s .1);
       left = ap trimmed (sym (s .1)) ∙ trimmed-codes cs (s .0);
-      firm = firm-end (pastCodes true cs) (firm-past cs);
+      firm = firm-end (pastCodes true cs) (past-open cs);
     }
 
 pub trim-front : (fs cs : List ℕ) → scalars (fs ++ cs) ≡ true → allBlank fs ≡ true → trimmed (encodeAll (fs ++ cs)) ≡ trimmed (encodeAll cs)
@@ -163,19 +148,12 @@ trim-firm : (c : ℕ) (cs : List ℕ) → blank c ≡ false → scalars (c ∷ c
 unfolding pastCodes encodeAll
 trim-firm c cs h s = trimmed-codes (c ∷ cs) s ∙ rw (h, end-firm c cs h)
 
-encode-some : (c : ℕ) → 0 < length (encode c)
-unfolding encode
-encode-some c =
-    by-test (leb c 0x7F) (λ e. rw e (omega arith))
-    (λ e. by-test (leb c 0x7FF) (λ f. rw (e, f) (omega arith))
-    (λ f. by-test (leb c 0xFFFF) (λ g. rw (e, f, g) (omega arith)) (λ g. rw (e, f, g) (omega arith))))
-
 head-same : (k x y : List ℕ) {b : ℕ} {r : List ℕ} → 0 < length k → k ++ x ≡ b ∷ r → (q : List ℕ) × (k ++ y ≡ b ∷ q)
 head-same [] x y h e = absurd (omega arith)
 head-same (a ∷ k) x y {b} {r} h e = let f : a ≡ b = cc in (k ++ y, rw f)
 
 -- so a text starts as what trimming leaves of a part in front of it
-pub first-byte : (cs ds : List ℕ) {b : ℕ} {r : List ℕ} → Firm (cs ++ ds) → scalars cs ≡ true → trimmed (encodeAll cs) ≡ b ∷ r → (q : List ℕ) × (encodeAll (cs ++ ds) ≡ b ∷ q)
+pub first-byte : (cs ds : List ℕ) {b : ℕ} {r : List ℕ} → Open (cs ++ ds) → scalars cs ≡ true → trimmed (encodeAll cs) ≡ b ∷ r → (q : List ℕ) × (encodeAll (cs ++ ds) ≡ b ∷ q)
 unfolding encodeAll
 first-byte [] ds {b} {r} f s e = let g : [] ≡ b ∷ r = sym nothing-trimmed ∙ e in let z : _≡_ {A = ℕ} 0 1 = cc in absurd (omega arith)
 first-byte (c ∷ cs) ds f s e =
