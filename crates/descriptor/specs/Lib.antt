@@ -6,3 +6,4 @@ pub mod Line
 pub mod Read
 pub mod Array
 pub mod Probe
+pub mod Statements

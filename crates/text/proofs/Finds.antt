@@ -10,7 +10,7 @@ use borrow.Author.Needs.{needs}
 use lib.ListN.{length, getD, take, drop, drop-of-length-le, length-drop, length-append}
 use lib.Seq.{drop-cons, getD-append-seam, take-append-seam}
 use lib.Dec.{leb, eqb}
-use borrow.Author.Tests.{eq-eqb, ne-eqb, le-leb, lt-leb}
+use borrow.Author.Tests.{eq-eqb, ne-eqb, eqb-true, le-leb, lt-leb}
 use Rattle.text.specs.Find.{findFrom, findAt, lineEnd, same, begins, stripOf, partOf}
 use Rattle.text.specs.declared.find.Place.{Place}
 use Rattle.text.specs.declared.find.Part.{Part}
@@ -151,3 +151,13 @@ strip-between l =
     let k : length (0x22 ∷ l ++ 0x22 ∷ []) - 1 ≡ length (0x22 ∷ l) = omega arith in
     let q : getD (0x22 ∷ l ++ 0x22 ∷ []) (length (0x22 ∷ l ++ 0x22 ∷ []) - 1) 0 ≡ 0x22 = rw k (getD-append-seam (0x22 ∷ l) 0x22 [] 0) in
     rw (← strip-both (0x22 ∷ l ++ 0x22 ∷ []) (omega arith) refl q, m) (take-append-seam l (0x22 ∷ []))
+
+-- what is the same is equal
+pub same-is : (t k : List ℕ) → same t k ≡ true → t ≡ k
+unfolding same
+same-is [] [] h = refl
+same-is [] (y ∷ k) h = let z : _≡_ {A = ℕ} 0 1 = cc in absurd (omega arith)
+same-is (x ∷ t) [] h = let z : _≡_ {A = ℕ} 0 1 = cc in absurd (omega arith)
+same-is (x ∷ t) (y ∷ k) h =
+    by-test (eqb x y) (λ e. let q : x ≡ y = eqb-true x y e in rw (q, same-is t k (rw e at h)))
+    (λ e. let g : false ≡ true = rw e at h in let z : _≡_ {A = ℕ} 0 1 = cc in absurd (omega arith))

@@ -67,7 +67,7 @@ drop-spelled p (c ∷ cs) =
     rw (e, drop-spelled (p + length (encode c)) cs, q))
     (λ e. let q : p + width [] ≡ p = omega (arith, width-nil) in rw (e, q))
 
-end-blank : (cs : List ℕ) → allBlank cs ≡ true → endCodes cs ≡ []
+pub end-blank : (cs : List ℕ) → allBlank cs ≡ true → endCodes cs ≡ []
 unfolding endCodes
 end-blank [] e = refl
 end-blank (c ∷ cs) e = rw e
@@ -101,11 +101,11 @@ range-spelled p c cs e =
     ap (Range p) (last-spelled (p + length (encode c)) (p + length (encode c)) cs ∙ (rw e at (last-cons 0 p c cs)))
 
 -- the first, if there is one, is no blank
-abbrev Open : List ℕ → Type 0
+abbrev pub Open : List ℕ → Type 0
 Open [] = Unit {0}
 Open (c ∷ cs) = blank c ≡ false
 
-past-open : (cs : List ℕ) → Open (pastCodes true cs)
+pub past-open : (cs : List ℕ) → Open (pastCodes true cs)
 unfolding pastCodes
 past-open [] = tt
 past-open (c ∷ cs) = by-test (blank c) (λ e. rw e (past-open cs)) (λ e. rw e e)
@@ -150,7 +150,7 @@ past-scalars w (c ∷ cs) s =
     (λ e. rw e (past-scalars w cs (scalars-tail c cs s)))
     (λ e. rw e s)
 
-encode-some : (c : ℕ) → 0 < length (encode c)
+pub encode-some : (c : ℕ) → 0 < length (encode c)
 unfolding encode
 encode-some c =
     by-test (leb c 0x7F) (λ e. rw e (omega arith))
