@@ -26,7 +26,7 @@ use Rattle.extents.specs.declared.table.Built.{Built}
 use Rattle.extents.specs.Build.{noRow, tableOf, Rows, rows, refused, inBytes, inSource, before, rowsFrom, built, buildOf}
 use Rattle.extents.specs.Place.{bytesIn, sizeOf}
 use Rattle.theorems.specs.Rows.{Builds, sourceOf}
-use Rattle.theorems.proofs.Tests.{by-test}
+use Rattle.text.proofs.Flat.{by-test}
 
 -- the row of an extent that starts at a place of the disk
 abbrev pub rowOf : ℕ → VmdkParsedExtent → Row

@@ -21,7 +21,7 @@ use Rattle.extents.specs.Map.{Search, found, nowhere, sourced, inRow, searchOf,
 use Rattle.extents.specs.Walk.{Walk, step, walkFrom}
 use Rattle.theorems.specs.Rows.{rowAt, OneRow}
 use Rattle.theorems.specs.Continuing.{goOn}
-use Rattle.theorems.proofs.Tests.{by-test}
+use Rattle.text.proofs.Flat.{by-test}
 use Rattle.theorems.proofs.Rows.{holds-true}
 use Rattle.theorems.proofs.Halving.{few-looks}
 use Rattle.theorems.proofs.Routes.{over-or-on, walk-full, walk-step}

@@ -21,7 +21,8 @@ use Rattle.extents.specs.Build.{noRow}
 use Rattle.extents.specs.Map.{Search, found, nowhere, looked, holds, middle, halve, sourced, inRow, searchOf, mapOf}
 use Rattle.extents.specs.Place.{sizeOf}
 use Rattle.theorems.specs.Looks.{looks, Finds, FewLooks}
-use Rattle.theorems.proofs.Tests.{by-test, three-ways}
+use Rattle.text.proofs.Flat.{by-test}
+use Rattle.theorems.proofs.Orders.{three-ways}
 use Rattle.theorems.specs.Rows.{Builds, rowAt}
 use Rattle.theorems.proofs.Built.{tableIn, table-laid, length-laid}
 use Rattle.theorems.proofs.Places.{Held, held}

@@ -18,7 +18,7 @@ use Rattle.extents.specs.declared.table.Stop.the-variants.{Done, More, Refused 
 use Rattle.extents.specs.Map.{mapOf}
 use Rattle.extents.specs.Walk.{Walk, ends, then, step, walkFrom, walkOf}
 use Rattle.theorems.specs.Continuing.{goOn, partsOf, placesIn, longWalk}
-use Rattle.theorems.proofs.Tests.{by-test}
+use Rattle.text.proofs.Flat.{by-test}
 use Rattle.theorems.proofs.Routes.{over-or-on, walk-full, walk-step}
 
 -- the position never falls

@@ -14,7 +14,7 @@ use Rattle.extents.specs.declared.table.PieceSource.{PieceSource}
 use Rattle.extents.specs.declared.table.PieceSource.the-variants.{Zero as Zeros, Raw as File}
 use Rattle.extents.specs.Place.{placeOf}
 use Rattle.theorems.specs.Tiling.{rowsOf, Rise, Placed, All, Follow, sourceAt, Range, Chain, numberOf, InOne}
-use Rattle.theorems.proofs.Tests.{three-ways}
+use Rattle.theorems.proofs.Orders.{three-ways}
 
 follow-up : (a : ℕ) (ps : List Piece) (b : ℕ) → Follow a ps b → a ≤ b
 follow-up a [] b h = omega arith

@@ -1,4 +1,4 @@
-pub mod Tests
+pub mod Orders
 pub mod Built
 pub mod Places
 pub mod Rows

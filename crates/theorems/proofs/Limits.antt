@@ -20,7 +20,7 @@ use Rattle.extents.specs.Map.{mapOf}
 use Rattle.extents.specs.Place.{sizeOf, placeOf}
 use Rattle.extents.specs.Walk.{Walk, step, walkFrom}
 use Rattle.theorems.specs.Tiling.{isLocked, firstLocked, noAccessFrom, FirstNoAccess, Meets}
-use Rattle.theorems.proofs.Tests.{by-test}
+use Rattle.text.proofs.Flat.{by-test}
 use Rattle.theorems.proofs.Halving.{looked-eight}
 use Rattle.theorems.proofs.Routes.{over-or-on, walk-full, walk-step}
 use Rattle.theorems.proofs.Tiles.{Why, Reached}

@@ -20,7 +20,7 @@ use Rattle.extents.specs.Place.{past, within, bytesIn, sizeOf, placeOf}
 use Rattle.theorems.specs.Rows.{Builds, sourceOf}
 use Rattle.theorems.specs.Looks.{looks}
 use Rattle.theorems.specs.Maps.{restOf, shown, runAt, MapsBy}
-use Rattle.theorems.proofs.Tests.{by-test}
+use Rattle.text.proofs.Flat.{by-test}
 use Rattle.theorems.proofs.Built.{tableIn, table-laid, length-laid}
 use Rattle.theorems.proofs.Places.{Held, held, beyond}
 use Rattle.theorems.proofs.Rows.{row-in, size-upto}

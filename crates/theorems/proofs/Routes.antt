@@ -28,7 +28,7 @@ use Rattle.extents.specs.Place.{within, bytesIn, sizeOf, placeFrom, placeOf, Re
 use Rattle.extents.specs.Walk.{Walk, ends, then, zeroPiece, rawPiece, step, walkFrom}
 use Rattle.theorems.specs.Maps.{restOf, shown, runAt, MapsBy}
 use Rattle.theorems.specs.Tiling.{ZeroPlain, readable, byteOf}
-use Rattle.theorems.proofs.Tests.{by-test, pick-same}
+use Rattle.text.proofs.Flat.{by-test, pick-same}
 
 -- the piece of extent i from a position up to a place; the extent begins at a place of the disk
 pub record PieceOf (x : VmdkParsedExtent) (i begin pos upto : ℕ) (p : Piece) : Type 0 where

@@ -18,7 +18,8 @@ use Rattle.extents.specs.Build.{noRow}
 use Rattle.extents.specs.Map.{holds}
 use Rattle.extents.specs.Place.{bytesIn, sizeOf}
 use Rattle.theorems.specs.Rows.{Builds, rowAt, OneRow, InRows}
-use Rattle.theorems.proofs.Tests.{by-test, three-ways}
+use Rattle.text.proofs.Flat.{by-test}
+use Rattle.theorems.proofs.Orders.{three-ways}
 use Rattle.theorems.proofs.Built.{tableIn, laid, rowOf, table-laid, length-laid, row-laid, filled-at, size-next, size-grows, size-all}
 use Rattle.theorems.proofs.Places.{Held, held}
 

@@ -15,7 +15,7 @@ use Rattle.descriptor.specs.declared.record.VmdkParsedStorage.{VmdkParsedStorag
 use Rattle.descriptor.specs.declared.record.VmdkParsedStorage.the-variants.{NoAccess, Zero, Flat}
 use Rattle.extents.specs.Place.{within, bytesIn, placeFrom, placeOf, past}
 use Rattle.theorems.specs.Tiling.{isLocked, readable, numberOf, shares, metFrom, metBy, ReadsIn, Rise, Met}
-use Rattle.theorems.proofs.Tests.{by-test}
+use Rattle.text.proofs.Flat.{by-test}
 use Rattle.theorems.proofs.Routes.{place-here, place-next}
 use Rattle.theorems.proofs.Tiles.{reads-free}
 

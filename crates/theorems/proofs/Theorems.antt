@@ -2,13 +2,17 @@
 -- Assumes nothing.
 use Prim.Native.Nat.{ℕ, _<_, _≤_}
 use mathlib.Core.List.{List, map}
-use mathlib.Core.Path.{_≡_}
+use mathlib.Core.Path.{_≡_, sym, subst}
 use Rattle.descriptor.specs.Record.{most, counted}
+use Rattle.descriptor.specs.Read.{readOf}
+use Rattle.descriptor.specs.Statements.{sayingsOf, extentsIn}
+use Rattle.descriptor.specs.declared.record.Verdict.the-variants.{Sound}
 use Rattle.descriptor.specs.declared.record.Record.{Record}
 use Rattle.descriptor.specs.declared.record.VmdkParsedExtent.{VmdkParsedExtent}
 use Rattle.extents.specs.declared.table.Table.{Table}
 use Rattle.extents.specs.Place.{Reachable}
 use Rattle.extents.specs.Walk.{walkOf}
+use Rattle.descriptor.proofs.Theorems.{extents-in-order}
 use Rattle.theorems.specs.Rows.{Builds, InRows}
 use Rattle.theorems.specs.Looks.{Finds, FewLooks}
 use Rattle.theorems.specs.Maps.{MapsBy}
@@ -43,6 +47,18 @@ mapping-places = built-maps
 -- Demand 3. Take any built table in which each flat extent's file start plus its length is at most 2^64. A walk over any range, given 128 list places, writes pieces that tile the range up to the first of its end, the disk's end and a no-access byte, each byte at the place that the extents give it, with one piece for each non-empty readable extent met and no shorter tiling by single-extent pieces. The walk looks at no more than 8 rows a piece and 8 besides.
 pub demand-3 : (r : Record) (t : Table) → Builds r t → Reachable (counted r) → (places start long : ℕ) → most ≤ places → Tiles (counted r) start long (walkOf t places start long)
 demand-3 = built-tiles
+
+-- The same for bytes: for any descriptor that reads and whose record builds, mapping equals the place that its extent lines give, ..
+pub mapping-places-bytes : (d : List ℕ) (t : Table) → readOf d .verdict ≡ Sound → Builds (readOf d .descriptor) t → (o asked : ℕ) → MapsBy (extentsIn (sayingsOf d)) t o asked
+mapping-places-bytes d t a b o asked =
+    subst (λ (xs : List VmdkParsedExtent). MapsBy xs t o asked) (extents-in-order d a .0) (mapping-places (readOf d .descriptor) t b o asked)
+
+-- .. and a walk tiles any range, each byte at the place that the extent lines give it.
+pub demand-3-bytes : (d : List ℕ) (t : Table) → readOf d .verdict ≡ Sound → Builds (readOf d .descriptor) t → Reachable (extentsIn (sayingsOf d)) → (places start long : ℕ) → most ≤ places → Tiles (extentsIn (sayingsOf d)) start long (walkOf t places start long)
+demand-3-bytes d t a b h places start long m =
+    let e = extents-in-order d a .0 in
+    subst (λ (xs : List VmdkParsedExtent). Tiles xs start long (walkOf t places start long)) e
+    (demand-3 (readOf d .descriptor) t b (subst Reachable (sym e) h) places start long m)
 
 -- Two words of demand 3, told by the bytes' places alone: the first no-access byte at or after a place, ..
 pub first-no-access : (xs : List VmdkParsedExtent) (start : ℕ) → FirstNoAccess xs start (noAccessFrom xs start)
