@@ -149,7 +149,7 @@ module _ (rows : List Row) (lo hi o k : ℕ) where
       plain k = omega arith
 
 -- the row found holds the offset, and is one of the rows
-abbrev Finds : List Row → ℕ → ℕ → Search → Type 0
+abbrev pub Finds : List Row → ℕ → ℕ → Search → Type 0
 Finds rows o bound (found i n) = ((getD rows i noRow .start .0 ≤ o) × (o < getD rows i noRow .end .0)) × (i < bound)
 Finds rows o bound (nowhere n) = Unit {0}
 

@@ -1,11 +1,11 @@
--- What every mapping keeps to: its run is at most the length asked and at most what the disk has from the offset on, since it is the least of them, and it looks at no more rows than there are, since a look leaves a narrower window.
+-- What every mapping keeps to: its run is at most the length asked and at most what the disk has from the offset on, since it is the least of them, and it looks at no more rows than there are, since a look leaves a narrower window; and a piece has at least one byte, since its row holds the offset.
 -- Assumes nothing.
 use Prim.Native.Nat.{ℕ, zero, suc, _+_, _-_, _<_, _≤_, _^_, min}
 use native.Mathlib.Omega.{arith}
 use mathlib.Core.List.{List}
 use lib.Dec.{ltb, leb}
 use lib.ListN.{getD}
-use borrow.Author.Tests.{leb-true}
+use borrow.Author.Tests.{leb-true, leb-false}
 use Rattle.text.specs.Ranges.{pick}
 use Rattle.text.specs.Sector.{largest}
 use Rattle.descriptor.specs.Record.{most}
@@ -13,12 +13,14 @@ use Rattle.extents.specs.declared.table.Row.{Row}
 use Rattle.extents.specs.declared.table.Source.{Source}
 use Rattle.extents.specs.declared.table.Source.the-variants.{NoAccess, Zero, Flat}
 use Rattle.extents.specs.declared.table.Table.{Table}
+use Rattle.extents.specs.declared.table.ShallowMapping.{ShallowMapping}
+use Rattle.extents.specs.declared.table.ShallowMapping.the-variants.{Eof, Zero as Zeros, Raw, Refused}
 use Rattle.extents.specs.declared.table.Mapping.{Mapping}
 use Rattle.extents.specs.declared.stepping.Stand.{Stand}
 use Rattle.extents.specs.Build.{noRow}
 use Rattle.extents.specs.Map.{Search, found, nowhere, looked, holds, middle, decide, halve, sourced, ended, refused, inRow, searchOf, mapOf}
 use Rattle.extents.specs.Stepping.{Meant, Ready}
-use Rattle.extents.proofs.Halves.{pick-elim}
+use Rattle.extents.proofs.Halves.{pick-elim, Finds, halve-finds}
 
 -- at most n rows were looked at
 abbrev Looks : ℕ → Search → Type 0
@@ -74,3 +76,36 @@ pub map-meant : (t : Table) (s : Stand) → s .pos < 2 ^ 64 → Ready t s → Me
 map-meant t s f r =
     let g = map-modest t (s .pos) (s .left) in
     (g .0, (omega (arith, g .1 .0, f, r .0), omega (arith, g .1 .1, r .1)))
+
+-- a piece has at least one byte
+abbrev pub Some : ShallowMapping → ℕ → Type 0
+Some Eof run = Unit {0}
+Some (Zeros i) run = 0 < run
+Some (Raw i at w) run = 0 < run
+Some (Refused number) run = Unit {0}
+
+sourced-some : (s : Source) (i within run k : ℕ) → 0 < run → Some (sourced s i within run k .mapping) (sourced s i within run k .run)
+unfolding sourced
+sourced-some NoAccess i within run k h = tt
+sourced-some (Zero a) i within run k h = h
+sourced-some (Flat a b name) i within run k h = pick-elim (λ (m : Mapping). Some (m .mapping) (m .run)) (leb (b .0 + within) largest) _ _ (λ _. h) (λ _. tt)
+
+row-some : (t : Table) (o asked bound : ℕ) (s : Search) → Finds (t .rows) o bound s → 0 < asked → o < t .size .0 → Some (inRow t o asked s .mapping) (inRow t o asked s .run)
+unfolding inRow
+row-some t o asked bound (found i k) f a l =
+    let r : Row = getD (t .rows) i noRow in
+    sourced-some (r .source) i (o - r .start .0) (min asked (min (t .size .0 - o) (r .end .0 - o))) k (least asked (t .size .0) (r .end .0) a l (f .0 .1))
+  where
+    least : (asked size end : ℕ) → 0 < asked → o < size → o < end → 0 < min asked (min (size - o) (end - o))
+    least asked size end a l e = omega arith
+row-some t o asked bound (nowhere k) f a l = tt
+
+-- where some length is asked, what is found has at least one byte: the row holds the offset, which is below the size
+pub map-some : (t : Table) (o asked : ℕ) → 0 < asked → Some (mapOf t o asked .mapping) (mapOf t o asked .run)
+unfolding mapOf searchOf
+map-some t o asked a =
+    let s : Search = halve (t .count) (t .rows) 0 (t .count) o in
+    pick-elim (λ (m : Mapping). Some (m .mapping) (m .run)) (leb (t .count) most) (pick (leb (t .size .0) o) (ended 0) (inRow t o asked s)) (refused 23 0)
+    (λ _. pick-elim (λ (m : Mapping). Some (m .mapping) (m .run)) (leb (t .size .0) o) (ended 0) (inRow t o asked s) (λ _. tt)
+    (λ e. row-some t o asked (t .count) s (halve-finds (t .count) (t .rows) 0 (t .count) o (t .count) (omega arith)) a (leb-false (t .size .0) o e)))
+    (λ _. tt)
