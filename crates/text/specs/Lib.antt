@@ -1,6 +1,7 @@
 pub mod Ranges
 pub mod Utf8
 pub mod Blank
+pub mod Blocks
 pub mod Text
 pub mod Find
 pub mod Lines
