@@ -8,7 +8,7 @@ use mathlib.Core.List.{List, [], _∷_, _++_}
 use mathlib.Core.Bool.{Bool, true, false, not}
 use mathlib.Core.Path.{_≡_, refl, sym, ap, _∙_}
 use borrow.Author.Needs.{needs}
-use lib.ListN.{length, getD, take, drop, drop-of-length-le, length-take, length-drop, length-append}
+use lib.ListN.{length, getD, take, drop, drop-of-length-le, length-drop, length-append}
 use lib.Seq.{drop-cons, getD-append-seam, take-append-seam}
 use lib.Dec.{eqb}
 use borrow.Author.Tests.{eq-eqb, ne-eqb, le-leb, lt-leb}
@@ -17,7 +17,7 @@ use Rattle.text.specs.Find.{findFrom, findAt, lineEnd, same, begins, str
 use Rattle.text.specs.declared.find.Place.{Place}
 use Rattle.text.specs.declared.find.Part.{Part}
 use Rattle.text.specs.declared.find.Place.the-variants.{Here, Nowhere}
-use Rattle.text.proofs.Parts.{take-count, block-byte}
+use Rattle.text.proofs.Parts.{take-count, block-byte, block-long}
 use Rattle.text.proofs.Flat.{by-test, pick-same, both, unequal}
 
 -- Rules of the loop of `find_byte`. `search finds` finds their premises by itself: what the loop keeps, and the tests on the way.
@@ -46,12 +46,8 @@ skip (suc n) b t at m k h e =
     let o : at + n + 1 ≡ at + suc n = omega arith in
     find-miss b t at (at + n) (skip n b t at m (omega arith) h (q .0)) (omega arith) (unequal (getD t (at + n) 0) b (rw s at (q .1))) ∙ ap (findAt b t) o
 
-module _ (b : ℕ) (t : List ℕ) (from at : ℕ) {last : ℕ} (h : at ≤ last) (l : last ≡ length t - 16) (k : 16 ≤ length t) where
-  pub block-long : 16 ≤ length (take (at + 16 - at) (drop at t))
-  block-long = simp (length-take, length-drop) (omega arith)
-
-  pub block-miss : {w : Bool} → findAt b t from ≡ findAt b t at → w ≡ without 16 b (take (at + 16 - at) (drop at t)) → w ≡ true → findAt b t from ≡ findAt b t (at + 16)
-  block-miss i e q = i ∙ skip 16 b t at (at + 16 - at) (omega arith) (omega arith) (sym e ∙ q)
+pub block-miss : (b : ℕ) (t : List ℕ) (from at : ℕ) {last : ℕ} {w : Bool} → at ≤ last → last ≡ length t - 16 → 16 ≤ length t → findAt b t from ≡ findAt b t at → w ≡ without 16 b (take (at + 16 - at) (drop at t)) → w ≡ true → findAt b t from ≡ findAt b t (at + 16)
+block-miss b t from at h l k i e q = i ∙ skip 16 b t at (at + 16 - at) (omega arith) (omega arith) (sym e ∙ q)
 
 pub ruleset blocks = (block-long, block-miss, needs)
 

@@ -18,3 +18,7 @@ take-count k l h = simp length-take (omega arith)
 -- a byte of `&s[k..k + m]`
 pub block-byte : (l : List ℕ) (k m i : ℕ) → i < m → getD (take m (drop k l)) i 0 ≡ getD l (k + i) 0
 block-byte l k m i h = getD-take m (drop k l) i 0 h ∙ getD-drop k l i 0
+
+-- `&s[k..k + 16]`, where k is at most 16 before the end
+pub block-long : (l : List ℕ) (k : ℕ) {last : ℕ} → k ≤ last → last ≡ length l - 16 → 16 ≤ length l → 16 ≤ length (take (k + 16 - k) (drop k l))
+block-long l k h e m = simp (length-take, length-drop) (omega arith)

@@ -1,8 +1,8 @@
 pub mod Ranges
 pub mod Utf8
 pub mod Blank
-pub mod Blocks
 pub mod Text
+pub mod Blocks
 pub mod Find
 pub mod Lines
 pub mod Number
