@@ -2,13 +2,13 @@
 -- Assumes nothing.
 use Prim.Native.Nat.{ℕ, _+_, _≤_, _<_}
 use native.Mathlib.Omega.{arith}
-use mathlib.Core.List.{List}
+use mathlib.Core.List.{List, [], _∷_}
 use mathlib.Core.Bool.{Bool, true, false}
-use mathlib.Core.Path.{_≡_}
+use mathlib.Core.Path.{_≡_, refl}
 use lib.ListN.{length, take, getD}
 use borrow.Author.Needs.{needs}
 use borrow.Author.Tests.{eq-eqb, ne-eqb, lt-ltb, le-ltb}
-use Rattle.text.specs.Text.{trimOf, runOf}
+use Rattle.text.specs.Text.{textFrom, textAt, sound, dropBlanks, trimText, trimOf, runOf}
 use Rattle.text.specs.Find.{same}
 use Rattle.text.specs.declared.words.Trimmed.{Trimmed}
 use Rattle.text.specs.declared.words.Trimmed.the-variants.{Range, Wrong}
@@ -92,6 +92,11 @@ run-take t {end} e = let h = run-within false t 0 in take-count end t (omega ari
 pub ruleset textLines = (run-take, text-empty, text-comment, text-whole, text-words, needs)
 
 -- Rules of `parse_descriptor_line`
+pub line-empty : (p : ℕ) (l : List ℕ) → length l ≡ 0 → Nothing ≡ lineOf p l
+unfolding lineOf trimOf trimText textAt textFrom sound dropBlanks textLine
+line-empty p [] h = refl
+line-empty p (b ∷ r) h = absurd (omega arith)
+
 module _ (p : ℕ) (l : List ℕ) {r : Trimmed} (e : r ≡ trimOf l) where
   pub line-wrong : r ≡ Wrong → Refused 4 ≡ lineOf p l
   unfolding lineOf
@@ -101,4 +106,4 @@ module _ (p : ℕ) (l : List ℕ) {r : Trimmed} (e : r ≡ trimOf l) where
   unfolding lineOf
   line-trimmed q m = rw (← e, q) m
 
-pub ruleset lines = (range-order, range-end, range-fits, part-room, line-wrong, line-trimmed, needs)
+pub ruleset lines = (range-order, range-end, range-fits, part-room, line-empty, line-wrong, line-trimmed, needs)

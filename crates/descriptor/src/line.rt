@@ -223,6 +223,9 @@ pub fn parse_descriptor_line(l: &[u8], place: usize) -> Said
     requires { ⌜ place + length (now l) ≤ 2097152 ⌝ }
     ensures { λ r. ⌜ r ≡ lineOf place (now (l .entry)) ⌝ }
 {
+    if l.len() == 0 {
+        return Said::Nothing;
+    }
     let r = trim(l);
     match r {
         Trimmed::Range(a, e) => text_line(&l[a..e], place + a),

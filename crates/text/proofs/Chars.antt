@@ -81,7 +81,7 @@ unfolding charAt charOf
 char-end t at h = rw (drop-of-length-le t h)
 
 module _ (t : List ℕ) (at : ℕ) (h : at < length t) {f : Lead} (e : f ≡ leadOf (getD t at 0)) where
-  char-at : charAt t at ≡ charBy f (getD t at 0) (drop (at + 1) t)
+  pub char-at : charAt t at ≡ charBy f (getD t at 0) (drop (at + 1) t)
   unfolding charAt charOf
   char-at = rw (drop-cons t at 0 h, add-one, e)
 
@@ -95,12 +95,12 @@ module _ (t : List ℕ) (at : ℕ) (h : at < length t) {f : Lead} (e : f ≡ lea
 pub ruleset chars = (lead-span, lead-bits, lead-count, lead-fits, char-end, char-never, char-tail, needs)
 
 -- Rules of `tail`, from what its loop keeps
-tail-read : (t : List ℕ) (at n lo hi c w : ℕ) → at < length t → 0 < n → tailAt t at n lo hi c w ≡ pick (within lo hi (getD t at 0)) (tailAt t (at + 1) (n - 1) 0x80 0xBF (c * 64 + getD t at 0 % 64) w) Bad
+pub tail-read : (t : List ℕ) (at n lo hi c w : ℕ) → at < length t → 0 < n → tailAt t at n lo hi c w ≡ pick (within lo hi (getD t at 0)) (tailAt t (at + 1) (n - 1) 0x80 0xBF (c * 64 + getD t at 0 % 64) w) Bad
 unfolding tailAt tailOf
 tail-read t at zero lo hi c w h k = absurd (omega arith)
 tail-read t at (suc n) lo hi c w h k = let e : suc n - 1 ≡ n = omega arith in rw (drop-cons t at 0 h, add-one, e)
 
-tail-none : (t : List ℕ) (at n lo hi c w : ℕ) → n ≤ 0 → tailAt t at n lo hi c w ≡ Scalar c w
+pub tail-none : (t : List ℕ) (at n lo hi c w : ℕ) → n ≤ 0 → tailAt t at n lo hi c w ≡ Scalar c w
 unfolding tailAt tailOf
 tail-none t at zero lo hi c w h = refl
 tail-none t at (suc n) lo hi c w h = absurd (omega arith)

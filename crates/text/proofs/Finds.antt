@@ -1,22 +1,24 @@
 -- What is to be found, compared or stripped from a place on is decided by the byte there and by what is left after it.
 -- So each turn of a loop is one unfolding of its definition, and a place that is found lies where it was looked for.
-use Prim.Native.Nat.{ℕ, suc, _+_, _-_, _≤_, _<_}
+use Prim.Native.Nat.{ℕ, zero, suc, _+_, _-_, _≤_, _<_}
 use native.Mathlib.Omega.{arith}
 use native.Mathlib.Numerals.{add-one}
+use native.Mathlib.Nat.{add-zero}
 use mathlib.Core.List.{List, [], _∷_, _++_}
-use mathlib.Core.Bool.{Bool, true, false}
-use mathlib.Core.Path.{_≡_, refl, sym, _∙_}
+use mathlib.Core.Bool.{Bool, true, false, not}
+use mathlib.Core.Path.{_≡_, refl, sym, ap, _∙_}
 use borrow.Author.Needs.{needs}
 use lib.ListN.{length, getD, take, drop, drop-of-length-le, length-drop, length-append}
 use lib.Seq.{drop-cons, getD-append-seam, take-append-seam}
 use lib.Dec.{leb, eqb}
 use borrow.Author.Tests.{eq-eqb, ne-eqb, eqb-true, le-leb, lt-leb}
+use Rattle.text.specs.Blocks.{without}
 use Rattle.text.specs.Find.{findFrom, findAt, lineEnd, same, begins, stripOf, partOf}
 use Rattle.text.specs.declared.find.Place.{Place}
 use Rattle.text.specs.declared.find.Part.{Part}
 use Rattle.text.specs.declared.find.Place.the-variants.{Here, Nowhere}
-use Rattle.text.proofs.Parts.{take-count}
-use Rattle.text.proofs.Flat.{by-test, pick-same}
+use Rattle.text.proofs.Parts.{take-count, block-byte, block-long}
+use Rattle.text.proofs.Flat.{by-test, pick-same, both, unequal}
 
 -- Rules of the loop of `find_byte`. `search finds` finds their premises by itself: what the loop keeps, and the tests on the way.
 module _ (b : ℕ) (t : List ℕ) (from at : ℕ) (i : findAt b t from ≡ findAt b t at) where
@@ -33,6 +35,21 @@ module _ (b : ℕ) (t : List ℕ) (from at : ℕ) (i : findAt b t from ≡ findA
   find-miss h e = rw (i, drop-cons t at 0 h, ne-eqb _ _ e, add-one)
 
 pub ruleset finds = (find-end, find-hit, find-miss, needs)
+
+-- Rules of the loop of `past_blocks`: bytes that are not b are passed over
+skip : (n b : ℕ) (t : List ℕ) (at m : ℕ) → n ≤ m → at + m ≤ length t → without n b (take m (drop at t)) ≡ true → findAt b t at ≡ findAt b t (at + n)
+unfolding without
+skip zero b t at m k h e = ap (findAt b t) (sym (add-zero at))
+skip (suc n) b t at m k h e =
+    let q = both (without n b (take m (drop at t))) (not (eqb (getD (take m (drop at t)) n 0) b)) e in
+    let s : getD (take m (drop at t)) n 0 ≡ getD t (at + n) 0 = block-byte t at m n (omega arith) in
+    let o : at + n + 1 ≡ at + suc n = omega arith in
+    find-miss b t at (at + n) (skip n b t at m (omega arith) h (q .0)) (omega arith) (unequal (getD t (at + n) 0) b (rw s at (q .1))) ∙ ap (findAt b t) o
+
+pub block-miss : (b : ℕ) (t : List ℕ) (from at : ℕ) {last : ℕ} {w : Bool} → at ≤ last → last ≡ length t - 16 → 16 ≤ length t → findAt b t from ≡ findAt b t at → w ≡ without 16 b (take (at + 16 - at) (drop at t)) → w ≡ true → findAt b t from ≡ findAt b t (at + 16)
+block-miss b t from at h l k i e q = i ∙ skip 16 b t at (at + 16 - at) (omega arith) (omega arith) (sym e ∙ q)
+
+pub ruleset blocks = (block-long, block-miss, needs)
 
 -- what is left to compare from a place on
 unfoldable pub sameAt : List ℕ → List ℕ → ℕ → Bool

@@ -4,10 +4,10 @@ use Prim.Native.Nat.{ℕ, _≤_, _<_}
 use native.Mathlib.Omega.{arith}
 use mathlib.Core.List.{List, [], _∷_}
 use mathlib.Core.Logic.{inl, inr}
-use mathlib.Core.Bool.{Bool, true, false}
+use mathlib.Core.Bool.{Bool, true, false, not, _&&_}
 use mathlib.Core.Path.{_≡_, refl, sym, subst, _∙_}
-use lib.Dec.{T, leb, ltb, leb→le}
-use borrow.Author.Tests.{le-leb, lt-leb, leb-true, leb-false, ltb-true}
+use lib.Dec.{T, leb, ltb, eqb, leb→le}
+use borrow.Author.Tests.{eq-eqb, le-leb, lt-leb, leb-true, leb-false, ltb-true}
 use types.Run.{OneOf}
 use Rattle.text.specs.Ranges.{Row, row, look, pick, within}
 
@@ -23,6 +23,14 @@ pick-same false x = refl
 pub and-T : (a b : Bool) → T (pick a b false) → T a × T b
 and-T true b t = (tt, t)
 and-T false b t = absurd t
+
+-- the two halves of an `&`
+pub both : (a b : Bool) → a && b ≡ true → (a ≡ true) × (b ≡ true)
+both true b e = (refl, e)
+both false b e = let z : _≡_ {A = ℕ} 0 1 = cc in absurd (omega arith)
+
+pub unequal : (a b : ℕ) → not (eqb a b) ≡ true → a ≡ b → ⊥
+unequal a b e h = let g : false ≡ true = rw (eq-eqb a b h) at e in let z : _≡_ {A = ℕ} 0 1 = cc in absurd (omega arith)
 
 pub within-in : (l h x : ℕ) → l ≤ x → x ≤ h → within l h x ≡ true
 within-in l h x p q = rw (le-leb l x p, le-leb x h q)

@@ -10,13 +10,9 @@ use lib.ListN.{length, drop, length-drop}
 use lib.Seq.{drop-drop}
 use mir.Syntax.{w64}
 use mir.Val.{Fits}
-use borrow.Author.Needs.{needs}
-use borrow.Author.Tests.{eq-eqb, ne-eqb}
-use Rattle.text.specs.declared.words.Word.the-variants.{Found, None}
 use Rattle.text.specs.Ranges.{pick, within}
 use Rattle.text.specs.Utf8.{leadOf, tailOf, charBy, charOf, charAt}
-use Rattle.text.specs.Blank.{blank}
-use Rattle.text.specs.Text.{done, bad, char, textFrom, textAt, alike, runText, runOf, wordOf}
+use Rattle.text.specs.Text.{done, bad, char, textFrom, textAt}
 use Rattle.text.specs.declared.utf8.Lead.{Lead}
 use Rattle.text.specs.declared.utf8.Lead.the-variants.{Row as Lead·Row, Never}
 use Rattle.text.specs.declared.utf8.Char.{Char}
@@ -108,39 +104,3 @@ module _ (t : List ℕ) (at : ℕ) {r : Char} (e : r ≡ charAt t at) where
   pub text-end : r ≡ End → textAt t at ≡ done
   unfolding charAt textAt
   text-end q = no-end at (drop at t) (sym q ∙ e)
-
-pub ruleset steps = (next-fits, next-less, needs)
-
--- Rules of `run_end`
-module _ {x : ℕ} (w : Bool) (t : List ℕ) (at : ℕ) {r : Char} (i : x ≡ runOf w t at) (e : r ≡ charAt t at) where
-  run-at : {c n : ℕ} {b k : Bool} → r ≡ Scalar c n → b ≡ blank c → k ≡ alike b w → x ≡ pick k (runOf w t (at + n)) at
-  unfolding runOf runText
-  run-at q p m = rw (i, text-step t at e q, m, p)
-
-  pub run-on : {c n : ℕ} {b k : Bool} → r ≡ Scalar c n → b ≡ blank c → k ≡ alike b w → k ≡ true → x ≡ runOf w t (at + n)
-  run-on q p m h = rw h at (run-at q p m)
-
-  pub run-off : {c n : ℕ} {b k : Bool} → r ≡ Scalar c n → b ≡ blank c → k ≡ alike b w → k ≡ false → at ≡ x
-  run-off q p m h = sym (rw h at (run-at q p m))
-
-  pub run-bad : r ≡ Bad → at ≡ x
-  unfolding runOf runText
-  run-bad q = rw (i, text-bad t at e q)
-
-  pub run-end : r ≡ End → at ≡ x
-  unfolding runOf runText
-  run-end q = rw (i, text-end t at e q)
-
-pub ruleset runs = (run-on, run-off, run-bad, run-end, steps)
-
--- Rules of `next_word`
-module _ (t : List ℕ) (at : ℕ) {a e : ℕ} (p : a ≡ runOf true t at) (q : e ≡ runOf false t a) where
-  pub word-none : a ≡ e → None ≡ wordOf t at
-  unfolding wordOf
-  word-none h = rw (← p, ← q, eq-eqb a e h)
-
-  pub word-some : (a ≡ e → ⊥) → Found a e ≡ wordOf t at
-  unfolding wordOf
-  word-some h = rw (← p, ← q, ne-eqb a e h)
-
-pub ruleset words = (word-none, word-some, needs)

@@ -1,80 +1,102 @@
--- Trimming as the code does it, one character after the other with the range marked so far, is `trimText`.
--- Before the first character that is no blank nothing is marked; from it on, the mark's end is the last such character's end.
-use Prim.Native.Nat.{ℕ, _+_}
+-- Trimming as the code does it, the front from the first byte on and the end from the last byte back, is `trimText`.
+-- Past the blanks in front the text is what `dropBlanks` leaves, and those blanks do not move the end of the last character that is none.
+use Prim.Native.Nat.{ℕ, _+_, _≤_, _<_}
 use native.Mathlib.Omega.{arith}
 use mathlib.Core.List.{List}
 use mathlib.Core.Bool.{Bool, true, false}
 use mathlib.Core.Logic.{_↔_}
-use mathlib.Core.Path.{_≡_, refl, sym}
+use mathlib.Core.Path.{_≡_, refl, sym, ap, _∙_}
+use lib.ListN.{length}
+use borrow.Author.Needs.{needs}
 use Rattle.text.specs.Ranges.{pick}
 use Rattle.text.specs.Utf8.{charAt}
 use Rattle.text.specs.Blank.{blank}
-use Rattle.text.specs.declared.utf8.Char.{Char}
-use Rattle.text.specs.declared.utf8.Char.the-variants.{Scalar, Bad, End}
-use Rattle.text.specs.Text.{Text, done, bad, char, sound, dropBlanks, lastEnd, rangeOf, trimText, trimOf, textAt, markOf}
-use Rattle.text.specs.declared.words.Trimmed.{Trimmed}
+use Rattle.text.specs.declared.utf8.Char.the-variants.{Scalar, Bad}
+use Rattle.text.specs.Text.{Text, done, bad, char, sound, dropBlanks, lastEnd, rangeOf, trimText, trimOf, textAt, runText, runOf}
 use Rattle.text.specs.declared.words.Trimmed.the-variants.{Range, Wrong}
-use Rattle.text.specs.declared.words.Span.{Span}
-use borrow.Author.Needs.{needs}
 use Rattle.text.proofs.Flat.{by-test}
-use Rattle.text.proofs.Texts.{steps, text-step, text-bad, text-end}
+use Rattle.text.proofs.Chars.{char-end}
+use Rattle.text.proofs.Texts.{text-step, text-bad, text-end}
+use Rattle.text.proofs.Ends.{reading, sound-char}
 
-trimFrom : Span → Text → Trimmed
-trimFrom s done = Range (s .first) (s .last)
-trimFrom s bad = Wrong
-trimFrom s (char a e c r) = trimFrom (markOf s (blank c) a e) r
+-- ---- past the blanks in front
+abbrev Past : List ℕ → ℕ → Type 0
+Past t at = dropBlanks (textAt t at) ≡ textAt t (runOf true t at)
 
-abbrev none : Span
-none = record { seen = false; first = 0; last = 0 }
+past-done : (t : List ℕ) (at : ℕ) → length t ≤ at → Past t at
+unfolding dropBlanks runOf runText
+past-done t at h = let d = text-end t at (char-end t at h) refl in rw d (sym d)
 
-abbrev one : ℕ → ℕ → Span
-one a e = record { seen = true; first = a; last = e }
+past-bad : (t : List ℕ) (at : ℕ) → charAt t at ≡ Bad → Past t at
+unfolding dropBlanks runOf runText
+past-bad t at e = let d = text-bad t at refl e in rw d (sym d)
 
-begun : (a e : ℕ) (x : Text) → trimFrom (one a e) x ≡ pick (sound x) (Range a (lastEnd e x)) Wrong
-unfolding trimFrom sound lastEnd
-begun a e done = refl
-begun a e bad = refl
-begun a e (char p q c r) =
-    by-test (blank c) (λ h. rw h (begun a e r)) (λ h. rw h (begun a q r))
+past-step : (t : List ℕ) (at c w : ℕ) → charAt t at ≡ Scalar c w → Past t (at + w) → Past t at
+unfolding dropBlanks runOf runText
+past-step t at c w e i =
+    let d = text-step t at refl e in
+    by-test (blank c) (λ f. rw (d, f) i) (λ f. rw (d, f) (sym d))
 
-trim-from : (x : Text) → trimFrom none x ≡ trimText x
-unfolding trimFrom trimText sound dropBlanks
-trim-from done = refl
-trim-from bad = refl
-trim-from (char p q c r) = by-test (blank c) (λ h. rw h (trim-from r)) (λ h. rw h (begun p q r))
+past : (t : List ℕ) → Past t 0
+past t = reading t (Past t) (past-done t) (past-bad t) (past-step t) 0
 
--- what is left to trim from a place on, with what is marked so far
-pub trimAt : List ℕ → Span → ℕ → Trimmed
-trimAt t s at = trimFrom s (textAt t at)
+sound-drop : (x : Text) → sound (dropBlanks x) ≡ sound x
+unfolding dropBlanks sound
+sound-drop done = refl
+sound-drop bad = refl
+sound-drop (char a e c r) = by-test (blank c) (λ f. rw f (sound-drop r)) (λ f. rw f)
+
+last-drop : (l : ℕ) (x : Text) → lastEnd l (dropBlanks x) ≡ lastEnd l x
+unfolding dropBlanks lastEnd
+last-drop l done = refl
+last-drop l bad = refl
+last-drop l (char a e c r) =
+    by-test (blank c)
+    (λ f. rw f (last-drop l r))
+    (λ f. let g : dropBlanks (char a e c r) ≡ char a e c r = rw f in ap (lastEnd l) g)
+
+drop-first : (x : Text) {a e c : ℕ} {r : Text} → dropBlanks x ≡ char a e c r → blank c ≡ false
+unfolding dropBlanks
+drop-first done h = let z : _≡_ {A = ℕ} 0 1 = cc in absurd (omega arith)
+drop-first bad h = let z : _≡_ {A = ℕ} 0 1 = cc in absurd (omega arith)
+drop-first (char p q d y) {a} {e} {c} {r} h =
+    by-test (blank d)
+    (λ f. drop-first y {a = a} {e = e} {c = c} {r = r} (rw f at h))
+    (λ f. let g : char p q d y ≡ char a e c r = rw f at h in let n : d ≡ c = cc in rw (← n) f)
+
+range-drop : (x : Text) (a e c : ℕ) (r : Text) → dropBlanks x ≡ char a e c r → rangeOf (dropBlanks x) ≡ Range a (lastEnd 0 x)
+unfolding lastEnd
+range-drop x a e c r d =
+    let n : lastEnd 0 x ≡ lastEnd e r = sym (last-drop 0 x) ∙ ap (lastEnd 0) d ∙ ap (λ (b : Bool). lastEnd (pick b 0 e) r) (drop-first x d) in
+    ap rangeOf d ∙ ap (Range a) (sym n)
 
 -- Rules of `trim`
-pub trim-start : (t : List ℕ) → trimOf t ≡ trimAt t none 0
-unfolding trimOf trimAt
-trim-start t = sym (trim-from (textAt t 0))
+module _ (t : List ℕ) {v : Bool} (p : v ≡ sound (textAt t 0)) where
+  pub trim-bad : v ≡ false → Wrong ≡ trimOf t
+  unfolding trimOf trimText
+  trim-bad q = rw (← p, q)
 
-module _ (t : List ℕ) (s : Span) (at : ℕ) {r : Char} (i : trimOf t ≡ trimAt t s at) (e : r ≡ charAt t at) where
-  pub trim-bad : r ≡ Bad → Wrong ≡ trimOf t
-  unfolding trimAt trimFrom
-  trim-bad q = rw (i, text-bad t at e q)
+  module _ (q : v ≡ true) where
+    pub trim-sound : sound (textAt t 0) ≡ true
+    trim-sound = sym p ∙ q
 
-  pub trim-end : r ≡ End → Range (s .first) (s .last) ≡ trimOf t
-  unfolding trimAt trimFrom
-  trim-end q = rw (i, text-end t at e q)
+    module _ {a : ℕ} (r : a ≡ runOf true t 0) where
+      drops : dropBlanks (textAt t 0) ≡ textAt t a
+      drops = past t ∙ ap (textAt t) (sym r)
 
-  pub trim-more : {c n : ℕ} {b : Bool} {s′ : Span} → r ≡ Scalar c n → b ≡ blank c → s′ ≡ markOf s b at (at + n) → trimOf t ≡ trimAt t s′ (at + n)
-  unfolding trimAt trimFrom
-  trim-more q p m = rw (i, text-step t at e q, m, p)
+      pub trim-none : length t ≤ a → Range 0 0 ≡ trimOf t
+      unfolding trimOf trimText
+      trim-none h = rw (trim-sound, drops, text-end t a (char-end t a h) refl)
 
-pub ruleset trims = (trim-start, trim-bad, trim-end, trim-more, steps)
+      pub trim-some : {e : ℕ} → a < length t → e ≡ lastEnd 0 (textAt t 0) → Range a e ≡ trimOf t
+      unfolding trimOf trimText
+      trim-some {e} h l =
+          let s : sound (textAt t a) ≡ true = ap sound (sym drops) ∙ sound-drop (textAt t 0) ∙ trim-sound in
+          let k = sound-char t a h s (charAt t a) refl in
+          let d : dropBlanks (textAt t 0) ≡ char a (a + k .1) (k .0) (textAt t (a + k .1)) = drops ∙ text-step t a refl (k .2) in
+          rw (trim-sound, l) (sym (range-drop (textAt t 0) a (a + k .1) (k .0) (textAt t (a + k .1)) d))
 
--- Rules of `mark`
-pub mark-first : (s : Span) (b : Bool) (a e : ℕ) → b ≡ false → s .seen ≡ false → record { seen = true; first = a; last = e } ≡ markOf s b a e
-mark-first s b a e h k = rw (h, k)
-
-pub mark-next : (s : Span) (b : Bool) (a e : ℕ) → b ≡ false → s .seen ≡ true → record { seen = true; first = s .first; last = e } ≡ markOf s b a e
-mark-next s b a e h k = rw (h, k)
-
-pub ruleset marks = (mark-first, mark-next, needs)
+pub ruleset trims = (trim-bad, trim-sound, trim-none, trim-some, needs)
 
 -- ---- trimming refuses exactly what is not sound
 sound-range : (x : Text) → sound x ≡ true → rangeOf (dropBlanks x) ≡ Wrong → ⊥

@@ -11,7 +11,6 @@ use Rattle.text.specs.declared.utf8.Char.{Char}
 use Rattle.text.specs.declared.utf8.Char.the-variants.{Scalar, Bad, End}
 use Rattle.text.specs.declared.words.Trimmed.{Trimmed}
 use Rattle.text.specs.declared.words.Trimmed.the-variants.{Range, Wrong}
-use Rattle.text.specs.declared.words.Span.{Span}
 use Rattle.text.specs.declared.words.Word.{Word}
 use Rattle.text.specs.declared.words.Word.the-variants.{Found, None}
 
@@ -89,11 +88,6 @@ cut t Wrong = []
 -- a text without the blanks at both ends, empty where the text is no UTF-8
 unfoldable pub trimmed : List ℕ → List ℕ
 trimmed t = cut t (trimOf t)
-
--- one more character of the range: what the code carries
-abbrev pub markOf : Span → Bool → ℕ → ℕ → Span
-markOf s true a e = s
-markOf s false a e = record { seen = true; first = pick (s .seen) (s .first) a; last = e }
 
 -- ---- words
 -- where the characters end that are blank, if blanks are wanted, or not blank, if they are not; from l on

@@ -1,5 +1,8 @@
 // Finding a byte, telling two texts apart, and what stands between quotes.
 ghost use mathlib.Core.Path.{_≡_};
+ghost use Prim.Native.Nat.{_≤_};
+ghost use lib.ListN.{length};
+ghost use Rattle.text.specs.Blocks.{without};
 ghost use Rattle.text.specs.Find.{findAt, lineEnd, same, begins, stripOf};
 
 // Where a byte is found, or that it stands nowhere.
@@ -14,11 +17,53 @@ pub struct Part {
     pub to: usize,
 }
 
+// Whether none of the first 16 bytes is b.
+fn without_byte(t: &[u8], b: u8) -> bool
+    requires { ⌜ 16 ≤ length (now t) ⌝ }
+    ensures { λ r. ⌜ r ≡ without 16 b (now (t .entry)) ⌝ }
+{
+    (t[0] != b)
+        & (t[1] != b)
+        & (t[2] != b)
+        & (t[3] != b)
+        & (t[4] != b)
+        & (t[5] != b)
+        & (t[6] != b)
+        & (t[7] != b)
+        & (t[8] != b)
+        & (t[9] != b)
+        & (t[10] != b)
+        & (t[11] != b)
+        & (t[12] != b)
+        & (t[13] != b)
+        & (t[14] != b)
+        & (t[15] != b)
+}
+
+// Past blocks of 16 bytes without b: the first place of b is the same from there.
+fn past_blocks(t: &[u8], from: usize, b: u8) -> usize
+    ensures { λ r. ⌜ findAt b (now (t .entry)) from ≡ findAt b (now (t .entry)) r ⌝ }
+{
+    if t.len() < 16 {
+        return from;
+    }
+    let last = t.len() - 16;
+    let mut at = from;
+    while at <= last {
+        if without_byte(&t[at..at + 16], b) {
+            at += 16;
+        } else {
+            return at;
+        }
+    }
+    at
+}
+
 // The first place of b at or after a place.
 pub fn find_byte(t: &[u8], from: usize, b: u8) -> Place
     ensures { λ r. ⌜ r ≡ findAt b (now (t .entry)) from ⌝ }
 {
-    let mut at = from;
+    let mut at = past_blocks(t, from, b);
     while at < t.len() {
         if t[at] == b {
             return Place::Here(at);

@@ -4,4 +4,5 @@ pub mod find;
 pub mod number;
 pub mod sector;
 pub mod utf8;
+mod valid;
 pub mod words;

@@ -6,6 +6,7 @@ pub parse-descriptor-line-spec : {M : Type 1} → statement M
 parse-descriptor-line-spec =
     tie.close
     (tie.spec
+    (λ c. search lines)
     (λ c κs. search lines)
     (λ c. search lines)
     (λ c. search lines)

@@ -1,5 +1,5 @@
 -- `words::next_word` meets its contract: past the blanks, then up to a blank, are the two runs that `wordOf` names.
-use Rattle.text.proofs.Texts.{words}
+use Rattle.text.proofs.Runs.{words}
 use Rattle.text.proofs.words.next_word.Statement.{statement}
 use Rattle.text.proofs.words.next_word.Tie as tie
 

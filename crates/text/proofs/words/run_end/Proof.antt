@@ -4,7 +4,7 @@ use Prim.Native.Nat.{_-_}
 use mathlib.Core.Path.{_≡_}
 use lib.ListN.{length}
 use Rattle.text.specs.Text.{runOf}
-use Rattle.text.proofs.Texts.{runs}
+use Rattle.text.proofs.Runs.{runs, offs}
 use Rattle.text.proofs.words.run_end.Statement.{statement}
 use Rattle.text.proofs.words.run_end.Tie as tie
 
@@ -21,6 +21,17 @@ run-end-spec =
     Inv-loop
     μ-loop
     (λ c. search runs)
+    (λ c. search runs)
+    (λ c. search runs)
+    (λ c κs. search runs)
+    (λ c κs. search runs)
+    (λ c. search runs)
+    (λ c. search runs)
+    (λ c. search runs)
+    (λ c. search runs)
+    (λ c. search runs)
+    (λ c. search runs)
+    (λ c. search runs)
     (λ c κs. search runs)
     (λ c. search runs)
     (λ c κs. search runs)
@@ -28,6 +39,7 @@ run-end-spec =
     (λ c. search runs)
     (λ c. search runs)
     (λ c. search runs)
+    (λ c. search offs)
     (λ c. search runs)
     (λ c. search runs)
     (λ c. search runs)

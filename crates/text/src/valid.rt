@@ -1,0 +1,143 @@
+// Whether a text is UTF-8, with runs of bytes below 80 passed over in blocks.
+ghost use mathlib.Core.Path.{_≡_};
+ghost use Prim.Native.Nat.{_≤_, _<_};
+ghost use mathlib.Core.Bool.{true};
+ghost use lib.ListN.{length};
+ghost use Rattle.text.specs.Blocks.{below, Passed, widthIn};
+ghost use Rattle.text.specs.Utf8.{charAt};
+ghost use Rattle.text.specs.Text.{sound, textAt};
+use crate::utf8::Char;
+use crate::utf8::next_char;
+
+// Whether the first 16 bytes are all below 80.
+fn low(t: &[u8]) -> bool
+    requires { ⌜ 16 ≤ length (now t) ⌝ }
+    ensures { λ r. ⌜ r ≡ below 16 (now (t .entry)) ⌝ }
+{
+    (t[0] < 0x80)
+        & (t[1] < 0x80)
+        & (t[2] < 0x80)
+        & (t[3] < 0x80)
+        & (t[4] < 0x80)
+        & (t[5] < 0x80)
+        & (t[6] < 0x80)
+        & (t[7] < 0x80)
+        & (t[8] < 0x80)
+        & (t[9] < 0x80)
+        & (t[10] < 0x80)
+        & (t[11] < 0x80)
+        & (t[12] < 0x80)
+        & (t[13] < 0x80)
+        & (t[14] < 0x80)
+        & (t[15] < 0x80)
+}
+
+// Past blocks of 16 bytes below 80, the last of which may overlap the one before it.
+fn past_blocks(t: &[u8], from: usize) -> usize
+    requires { ⌜ from ≤ length (now t) ⌝ }
+    ensures { λ r. ⌜ Passed (now (t .entry)) from r ⌝ }
+{
+    if t.len() < 16 {
+        return from;
+    }
+    let last = t.len() - 16;
+    let mut at = from;
+    while at <= last {
+        if low(&t[at..at + 16]) {
+            at += 16;
+        } else {
+            return at;
+        }
+    }
+    if low(&t[last..]) {
+        return t.len();
+    }
+    at
+}
+
+// Past bytes below 80.
+fn past_low(t: &[u8], from: usize) -> usize
+    requires { ⌜ from ≤ length (now t) ⌝ }
+    ensures { λ r. ⌜ Passed (now (t .entry)) from r ⌝ }
+{
+    if t.len() <= from {
+        return from;
+    }
+    if 0x80 <= t[from] {
+        return from;
+    }
+    let mut at = past_blocks(t, from);
+    while at < t.len() {
+        if t[at] < 0x80 {
+            at += 1;
+        } else {
+            return at;
+        }
+    }
+    at
+}
+
+// Whether a character of two bytes stands at a place.
+fn pair_at(t: &[u8], at: usize) -> bool
+    requires { ⌜ at < length (now t) ⌝ }
+    ensures { λ r. ⌜ (r ≡ true → widthIn (charAt (now (t .entry)) at) ≡ 2) ⌝ }
+{
+    if t.len() - at < 2 {
+        return false;
+    }
+    let b = t[at];
+    let x = t[at + 1];
+    (0xC2 <= b) & (b <= 0xDF) & (0x80 <= x) & (x <= 0xBF)
+}
+
+// Whether a character of three bytes stands at a place. (Those with E0 or ED in front, which the table treats apart, are left to it.)
+fn triple_at(t: &[u8], at: usize) -> bool
+    requires { ⌜ at < length (now t) ⌝ }
+    ensures { λ r. ⌜ (r ≡ true → widthIn (charAt (now (t .entry)) at) ≡ 3) ⌝ }
+{
+    if t.len() - at < 3 {
+        return false;
+    }
+    let b = t[at];
+    let x = t[at + 1];
+    let y = t[at + 2];
+    (0xE1 <= b) & (b <= 0xEF) & (b != 0xED) & (0x80 <= x) & (x <= 0xBF) & (0x80 <= y) & (y <= 0xBF)
+}
+
+// How many bytes the character at a place has, or 0 where there is none.
+fn width_at(t: &[u8], at: usize) -> usize
+    requires { ⌜ at < length (now t) ⌝ }
+    ensures { λ r. ⌜ r ≡ widthIn (charAt (now (t .entry)) at) ⌝ }
+{
+    if pair_at(t, at) {
+        return 2;
+    }
+    if triple_at(t, at) {
+        return 3;
+    }
+    let c = next_char(&t[at..], 0);
+    match c {
+        Char::Scalar(_, width) => width,
+        Char::Bad => 0,
+        Char::End => 0,
+    }
+}
+
+// Whether a text is UTF-8.
+pub fn valid(t: &[u8]) -> bool
+    ensures { λ r. ⌜ r ≡ sound (textAt (now (t .entry)) 0) ⌝ }
+{
+    let mut at = 0;
+    while at < t.len() {
+        if t[at] < 0x80 {
+            at = past_low(t, at + 1);
+            continue;
+        }
+        let width = width_at(t, at);
+        if width == 0 {
+            return false;
+        }
+        at += width;
+    }
+    true
+}
