@@ -4,11 +4,10 @@ use Prim.Native.Nat.{ℕ, _+_, _≤_}
 use native.Mathlib.Omega.{arith}
 use mathlib.Core.List.{List}
 use mathlib.Core.Logic.{_↔_}
-use mathlib.Core.Bool.{Bool, true, false}
+use mathlib.Core.Bool.{false}
 use mathlib.Core.Path.{_≡_, refl, subst}
 use lib.ListN.{length, take, drop}
 use lib.Dec.{ltb}
-use Rattle.text.specs.Ranges.{pick}
 use Rattle.text.specs.Text.{textAt, sound, trimOf, trimmed}
 use Rattle.text.specs.Find.{findAt}
 use Rattle.text.specs.Number.{numberOf}
@@ -22,6 +21,7 @@ use Rattle.text.specs.declared.sector.Sectors.{Sectors}
 use Rattle.text.specs.declared.sector.SectorCount.{SectorCount}
 use Rattle.text.specs.declared.sector.SectorCount.the-variants.{Count as Sectors·Count, Bad as Sectors·Bad}
 use Rattle.text.proofs.Trims.{trim-wrong}
+use Rattle.text.proofs.Flat.{pick-all}
 use Rattle.descriptor.specs.Key.{keyOf}
 use Rattle.descriptor.specs.Kept.{keptOf}
 use Rattle.descriptor.specs.Extent.{part, secondOf, thirdOf, threeWords, betweenQuotes, afterQuote, fileNameOf, fileStartOf, flatFrom, flatBy, flatLine, noAccessBy, noAccessLine, byThird, bySecond, extentLine}
@@ -90,13 +90,9 @@ abbrev LateName : FileName → Type 0
 LateName (Name x e) = Unit {0}
 LateName (NameRefused n) = (5 ≤ n) × (n ≤ 11)
 
-late-picked : (b : Bool) (r s : FileName) → LateName r → LateName s → LateName (pick b r s)
-late-picked true r s f g = f
-late-picked false r s f g = g
-
 late-between : (p : ℕ) (t : List ℕ) (i : ℕ) (f : Place) → LateName (betweenQuotes p t i f)
 late-between p t i Nowhere = omega arith
-late-between p t i (Here j) = late-picked (threeWords (take i t)) (Name (keptOf (p + (i + 1)) (part t (i + 1) j)) (j + 1)) (NameRefused 10) tt (omega arith)
+late-between p t i (Here j) = pick-all LateName (threeWords (take i t)) (Name (keptOf (p + (i + 1)) (part t (i + 1) j)) (j + 1)) (NameRefused 10) tt (omega arith)
 
 late-quote : (p : ℕ) (t : List ℕ) (f : Place) → LateName (afterQuote p t f)
 late-quote p t Nowhere = omega arith
@@ -157,10 +153,6 @@ late-of-extent (Set v) h = tt
 late-of-extent (Extent x) h = tt
 late-of-extent (Refused n) h = omega arith
 
-late-pick : (b : Bool) (r s : Said) → Late r → Late s → Late (pick b r s)
-late-pick true r s f g = f
-late-pick false r s f g = g
-
 late-access : (w : AccessWord) (p : ℕ) (t : List ℕ) (end : ℕ) → Late (accessLine w p t end)
 unfolding accessLine
 late-access NoAccess p t end = late-of-extent (noAccessLine t end) (extent-locked-line t end)
@@ -171,8 +163,8 @@ late-access Other p t end = late-of-key (keyLine p t) (key-keys p t)
 late-line : (p : ℕ) (t : List ℕ) → Late (textLine p t)
 unfolding textLine
 late-line p t =
-    late-pick (skipped t) Nothing _ tt
-    (late-pick (ltb (firstBlank t) (length t)) (accessLine (accessWord (take (firstBlank t) t)) p t (firstBlank t)) (keyLine p t)
+    pick-all Late (skipped t) Nothing _ tt
+    (pick-all Late (ltb (firstBlank t) (length t)) (accessLine (accessWord (take (firstBlank t) t)) p t (firstBlank t)) (keyLine p t)
     (late-access (accessWord (take (firstBlank t) t)) p t (firstBlank t)) (late-of-key (keyLine p t) (key-keys p t)))
 
 late-trimmed : (p : ℕ) (l : List ℕ) (r : Trimmed) → trimmedLine p l r ≡ Refused 4 → r ≡ Wrong

@@ -3,16 +3,16 @@
 use Prim.Native.Nat.{ℕ, suc, _+_, _≤_, _<_}
 use native.Mathlib.Omega.{arith}
 use mathlib.Core.List.{List, [], _∷_, _++_, append-assoc, append-nil}
-use mathlib.Core.Bool.{Bool, true, false}
+use mathlib.Core.Bool.{false}
 use mathlib.Core.Path.{_≡_, refl, sym, ap, subst, _∙_}
 use lib.ListN.{length, length-append}
 use lib.Dec.{leb, ltb}
 use borrow.Author.Tests.{lt-ltb, le-ltb, ltb-true, ltb-false}
-use Rattle.text.specs.Ranges.{pick, within}
+use Rattle.text.specs.Ranges.{within}
 use Rattle.text.specs.Sector.{bytesOf, largest}
 use Rattle.text.specs.declared.sector.ByteCount.{ByteCount}
 use Rattle.text.specs.declared.sector.ByteCount.the-variants.{Count, TooLarge}
-use Rattle.text.proofs.Flat.{by-test}
+use Rattle.text.proofs.Flat.{by-test, pick-all}
 use Rattle.descriptor.specs.Record.{most, refusal}
 use Rattle.descriptor.specs.Line.{lineOf}
 use Rattle.descriptor.specs.Read.{answer, setOf, summed, sizesFrom, checked, byLine, readLines}
@@ -33,12 +33,8 @@ abbrev pub From : ℕ → Verdict → Type 0
 From m Sound = Unit {0}
 From m (Stopped r) = m ≤ r .number
 
-from-pick : (m : ℕ) (b : Bool) (v w : Verdict) → From m v → From m w → From m (pick b v w)
-from-pick m true v w f g = f
-from-pick m false v w f g = g
-
 from-sum : (i sum : ℕ) (b : ByteCount) (go : ℕ → Verdict) → ((s : ℕ) → From 18 (go s)) → From 18 (summed i sum b go)
-from-sum i sum (Count b) go g = from-pick 18 (leb (sum + b .0) largest) (go (sum + b .0)) (refusal 19 i) (g (sum + b .0)) (omega arith)
+from-sum i sum (Count b) go g = pick-all (From 18) (leb (sum + b .0) largest) (go (sum + b .0)) (refusal 19 i) (g (sum + b .0)) (omega arith)
 from-sum i sum TooLarge go g = omega arith
 
 pub from-sizes : (i sum : ℕ) (xs : List VmdkParsedExtent) → From 18 (sizesFrom i sum xs)

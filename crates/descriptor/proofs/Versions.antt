@@ -4,7 +4,7 @@ use Prim.Native.Nat.{ℕ, zero, suc, _+_, _≤_}
 use native.Mathlib.Omega.{arith}
 use mathlib.Core.List.{List, [], _∷_, _++_, append-assoc}
 use mathlib.Core.Logic.{_↔_}
-use mathlib.Core.Bool.{Bool, true, false}
+use mathlib.Core.Bool.{true, false}
 use mathlib.Core.Path.{_≡_, refl, sym, ap, subst, _∙_}
 use lib.ListN.{length, take, drop}
 use lib.Dec.{eqb, ltb}
@@ -22,7 +22,7 @@ use Rattle.text.specs.declared.words.Trimmed.the-variants.{Range, Wrong}
 use Rattle.text.specs.declared.find.Place.the-variants.{Here}
 use Rattle.text.specs.declared.number.Num.{Num}
 use Rattle.text.specs.declared.number.Num.the-variants.{Value, Bad}
-use Rattle.text.proofs.Flat.{by-test}
+use Rattle.text.proofs.Flat.{by-test, pick-all}
 use Rattle.text.proofs.Finds.{same-is}
 use Rattle.descriptor.specs.Record.{noDesc, refusal}
 use Rattle.descriptor.specs.Key.{ascii, keyOf, geometryKey}
@@ -66,10 +66,6 @@ NoVersion Nothing = Unit {0}
 NoVersion (Extent x) = Unit {0}
 NoVersion (Refused n) = Unit {0}
 
-no-pick : (b : Bool) (r s : Said) → NoVersion r → NoVersion s → NoVersion (pick b r s)
-no-pick true r s f g = f
-no-pick false r s f g = g
-
 extent-no : (s : Said) → OfExtent s → NoVersion s
 extent-no Nothing h = tt
 extent-no (Set v) h = absurd h
@@ -87,25 +83,21 @@ OtherKey (Geometry·Key g) = Unit {0}
 OtherKey Ddb = Unit {0}
 OtherKey Unknown = Unit {0}
 
-other-pick : (b : Bool) (r s : Key) → OtherKey r → OtherKey s → OtherKey (pick b r s)
-other-pick true r s f g = f
-other-pick false r s f g = g
-
 other-geometry : (k : List ℕ) → OtherKey (geometryKey k)
 unfolding geometryKey
 other-geometry k =
-    other-pick (same k (ascii "ddb.geometry.sectors")) (Geometry·Key Sectors) _ tt
-    (other-pick (same k (ascii "ddb.geometry.heads")) (Geometry·Key Heads) _ tt
-    (other-pick (same k (ascii "ddb.geometry.cylinders")) (Geometry·Key Cylinders) _ tt
-    (other-pick (begins k (ascii "ddb.")) Ddb Unknown tt tt)))
+    pick-all OtherKey (same k (ascii "ddb.geometry.sectors")) (Geometry·Key Sectors) _ tt
+    (pick-all OtherKey (same k (ascii "ddb.geometry.heads")) (Geometry·Key Heads) _ tt
+    (pick-all OtherKey (same k (ascii "ddb.geometry.cylinders")) (Geometry·Key Cylinders) _ tt
+    (pick-all OtherKey (begins k (ascii "ddb.")) Ddb Unknown tt tt)))
 
 other-key : (k : List ℕ) → same k (ascii "version") ≡ false → OtherKey (keyOf k)
 unfolding keyOf
 other-key k e =
-    rw e (other-pick (same k (ascii "CID")) Cid _ tt
-    (other-pick (same k (ascii "parentCID")) ParentCid _ tt
-    (other-pick (same k (ascii "createType")) CreateType _ tt
-    (other-pick (same k (ascii "parentFileNameHint")) ParentFileNameHint (geometryKey k) tt (other-geometry k)))))
+    rw e (pick-all OtherKey (same k (ascii "CID")) Cid _ tt
+    (pick-all OtherKey (same k (ascii "parentCID")) ParentCid _ tt
+    (pick-all OtherKey (same k (ascii "createType")) CreateType _ tt
+    (pick-all OtherKey (same k (ascii "parentFileNameHint")) ParentFileNameHint (geometryKey k) tt (other-geometry k)))))
 
 version-key : (k : List ℕ) → same k (ascii "version") ≡ true → keyOf k ≡ Version
 unfolding keyOf
@@ -140,8 +132,8 @@ module _ (p : ℕ) (t : List ℕ) (k : NoVersion (keyLine p t)) where
   no-text : NoVersion (textLine p t)
   unfolding textLine
   no-text =
-      no-pick (skipped t) Nothing _ tt
-      (no-pick (ltb (firstBlank t) (length t)) (accessLine (accessWord (take (firstBlank t) t)) p t (firstBlank t)) (keyLine p t)
+      pick-all NoVersion (skipped t) Nothing _ tt
+      (pick-all NoVersion (ltb (firstBlank t) (length t)) (accessLine (accessWord (take (firstBlank t) t)) p t (firstBlank t)) (keyLine p t)
       (no-access (accessWord (take (firstBlank t) t)) (firstBlank t)) k)
 
 -- ---- a line that starts with `v` is neither skipped nor an extent line

@@ -94,7 +94,7 @@ abbrev pub Every : {A : Type 0} → (A → Type 0) → List (Row A) → Type 0
 Every P [] = Unit {0}
 Every P (row l h v ∷ rs) = P v × Every P rs
 
-pick-all : {A : Type 0} (P : A → Type 0) (b : Bool) (v w : A) → P v → P w → P (pick b v w)
+pub pick-all : {A : Type 0} (P : A → Type 0) (b : Bool) (v w : A) → P v → P w → P (pick b v w)
 pick-all P true v w p q = p
 pick-all P false v w p q = q
 
