@@ -4,7 +4,7 @@ use Prim.Native.Nat.{ℕ, _≤_, _<_}
 use native.Mathlib.Omega.{arith}
 use mathlib.Core.List.{List, [], _∷_}
 use mathlib.Core.Logic.{inl, inr}
-use mathlib.Core.Bool.{Bool, true, false, not, _&&_}
+use mathlib.Core.Bool.{Bool, true, false, not, _&&_, _||_}
 use mathlib.Core.Path.{_≡_, refl, sym, subst, _∙_}
 use lib.Dec.{T, leb, ltb, eqb, leb→le}
 use borrow.Author.Tests.{eq-eqb, le-leb, lt-leb, leb-true, leb-false, ltb-true}
@@ -31,6 +31,10 @@ both false b e = let z : _≡_ {A = ℕ} 0 1 = cc in absurd (omega arith)
 
 pub unequal : (a b : ℕ) → not (eqb a b) ≡ true → a ≡ b → ⊥
 unequal a b e h = let g : false ≡ true = rw (eq-eqb a b h) at e in let z : _≡_ {A = ℕ} 0 1 = cc in absurd (omega arith)
+
+-- the second half of an `|` whose first half is that two numbers differ
+pub unless : (a b : ℕ) (c : Bool) → not (eqb a b) || c ≡ true → a ≡ b → c ≡ true
+unless a b c e h = rw (eq-eqb a b h) at e
 
 pub within-in : (l h x : ℕ) → l ≤ x → x ≤ h → within l h x ≡ true
 within-in l h x p q = rw (le-leb l x p, le-leb x h q)

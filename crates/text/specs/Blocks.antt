@@ -1,4 +1,5 @@
--- What the code asks of several bytes at once, and of a place, before it reads one character after the other.
+-- What the code asks of several bytes at once, or of a place, so as not to read one character after the other.
+-- Only functions that are not exported promise these; what they come to is said by the definitions of Text and Find.
 use Prim.Native.Nat.{ℕ, zero, suc, _≤_}
 use mathlib.Core.List.{List}
 use mathlib.Core.Bool.{Bool, true, false, _&&_, not}

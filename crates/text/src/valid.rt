@@ -90,7 +90,7 @@ fn pair_at(t: &[u8], at: usize) -> bool
     (0xC2 <= b) & (b <= 0xDF) & (0x80 <= x) & (x <= 0xBF)
 }
 
-// Whether a character of three bytes stands at a place. (Those with E0 or ED in front, which the table treats apart, are left to it.)
+// Whether a character of three bytes stands at a place: two bytes 80 to BF, of which the first is A0 or above after E0, and 9F or below after ED.
 fn triple_at(t: &[u8], at: usize) -> bool
     requires { ⌜ at < length (now t) ⌝ }
     ensures { λ r. ⌜ (r ≡ true → widthIn (charAt (now (t .entry)) at) ≡ 3) ⌝ }
@@ -101,7 +101,27 @@ fn triple_at(t: &[u8], at: usize) -> bool
     let b = t[at];
     let x = t[at + 1];
     let y = t[at + 2];
-    (0xE1 <= b) & (b <= 0xEF) & (b != 0xED) & (0x80 <= x) & (x <= 0xBF) & (0x80 <= y) & (y <= 0xBF)
+    let least = (b != 0xE0) | (0xA0 <= x);
+    let most = (b != 0xED) | (x <= 0x9F);
+    (0xE0 <= b) & (b <= 0xEF) & (0x80 <= x) & (x <= 0xBF) & (0x80 <= y) & (y <= 0xBF) & least & most
+}
+
+// Whether a character of four bytes stands at a place: three bytes 80 to BF, of which the first is 90 or above after F0, and 8F or below after F4.
+fn quad_at(t: &[u8], at: usize) -> bool
+    requires { ⌜ at < length (now t) ⌝ }
+    ensures { λ r. ⌜ (r ≡ true → widthIn (charAt (now (t .entry)) at) ≡ 4) ⌝ }
+{
+    if t.len() - at < 4 {
+        return false;
+    }
+    let b = t[at];
+    let x = t[at + 1];
+    let y = t[at + 2];
+    let z = t[at + 3];
+    let least = (b != 0xF0) | (0x90 <= x);
+    let most = (b != 0xF4) | (x <= 0x8F);
+    let first = (0xF0 <= b) & (b <= 0xF4) & (0x80 <= x) & (x <= 0xBF) & least & most;
+    first & (0x80 <= y) & (y <= 0xBF) & (0x80 <= z) & (z <= 0xBF)
 }
 
 // How many bytes the character at a place has, or 0 where there is none.
@@ -109,11 +129,17 @@ fn width_at(t: &[u8], at: usize) -> usize
     requires { ⌜ at < length (now t) ⌝ }
     ensures { λ r. ⌜ r ≡ widthIn (charAt (now (t .entry)) at) ⌝ }
 {
-    if pair_at(t, at) {
-        return 2;
-    }
-    if triple_at(t, at) {
-        return 3;
+    if t[at] < 0xE0 {
+        if pair_at(t, at) {
+            return 2;
+        }
+    } else {
+        if triple_at(t, at) {
+            return 3;
+        }
+        if quad_at(t, at) {
+            return 4;
+        }
     }
     let c = next_char(&t[at..], 0);
     match c {
