@@ -1,0 +1,16 @@
+pub mod Item
+pub mod Plain
+pub mod Rows
+pub mod Held
+pub mod Again
+pub mod Halves
+pub mod Mappings
+pub mod Steps
+pub mod Put
+pub mod Runs
+pub mod Marks
+pub mod Lent
+pub mod Builds
+pub mod Local
+pub mod LentTable
+pub mod Listings
