@@ -15,7 +15,7 @@ use Rattle.text.specs.declared.number.Num.{Num}
 use Rattle.text.specs.declared.number.Num.the-variants.{Value, Bad}
 use Rattle.descriptor.specs.Key.{ascii}
 use Rattle.descriptor.specs.Record.{most}
-use Rattle.report.specs.Put.{Put, pasted, after}
+use Rattle.report.specs.Put.{Put}
 use Rattle.report.specs.Line.{refusedLine}
 use Rattle.report.specs.Report.{reportOf}
 use Rattle.report.specs.Map.{mapLineOf}
@@ -23,7 +23,7 @@ use Rattle.report.specs.Walk.{walkLinesOf}
 use Rattle.report.specs.Command.{mostInput, rangeOf, placesOf, commandOf, answerOf}
 use Rattle.report.specs.declared.command.Command.{Command}
 use Rattle.report.specs.declared.command.Command.the-variants.{Report, Map, Walk, Usage}
-use Rattle.report.proofs.Puts.{put-none, put-length, Told, told}
+use Rattle.report.proofs.Puts.{put-none, put-length}
 
 -- Rules of `range`
 module _ (a b : List ℕ) {x y : Num} (p : x ≡ numberOf largest a) (q : y ≡ numberOf largest b) where
@@ -104,27 +104,27 @@ module _ (n : ℕ) (m a b c : List ℕ) where
 
 pub ruleset commands = (no-arguments, one-report, one-other, three-map, three-other, four-walk, four-other, other-number, needs)
 
--- Rules of `answer`
-module _ {q : List ℕ} {r : ℕ} (o d : List ℕ) (x : Command) where
-  pub answer-long : mostInput < length d → Put o 0 (refusedLine (record { number = 24; second = 0 })) r q → Told o (answerOf d x) r q
+-- Rules of `put_answer`
+module _ {o q : List ℕ} {r : ℕ} (d : List ℕ) (x : Command) where
+  pub answer-long : mostInput < length d → Put o 0 (refusedLine (record { number = 24; second = 0 })) r q → Put o 0 (answerOf d x) r q
   unfolding answerOf
-  answer-long h k = rw (lt-leb (length d) mostInput h) (told k)
+  answer-long h k = rw (lt-leb (length d) mostInput h) k
 
   module _ (h : length d ≤ mostInput) where
-    pub answer-report : x ≡ Report → r ≡ after 0 (reportOf d) → q ≡ pasted o 0 (reportOf d) → Told o (answerOf d x) r q
+    pub answer-report : x ≡ Report → Put o 0 (reportOf d) r q → Put o 0 (answerOf d x) r q
     unfolding answerOf
-    answer-report e k l = rw (le-leb (length d) mostInput h, e) (k, l)
+    answer-report e k = rw (le-leb (length d) mostInput h, e) k
 
-    pub answer-map : {f n : ℕ} → x ≡ Map f n → r ≡ after 0 (mapLineOf d f n) → q ≡ pasted o 0 (mapLineOf d f n) → Told o (answerOf d x) r q
+    pub answer-map : {f n : ℕ} → x ≡ Map f n → Put o 0 (mapLineOf d f n) r q → Put o 0 (answerOf d x) r q
     unfolding answerOf
-    answer-map e k l = rw (le-leb (length d) mostInput h, e) (k, l)
+    answer-map e k = rw (le-leb (length d) mostInput h, e) k
 
-    pub answer-walk : {f n p : ℕ} → x ≡ Walk f n p → r ≡ after 0 (walkLinesOf d f n p) → q ≡ pasted o 0 (walkLinesOf d f n p) → Told o (answerOf d x) r q
+    pub answer-walk : {f n p : ℕ} → x ≡ Walk f n p → Put o 0 (walkLinesOf d f n p) r q → Put o 0 (answerOf d x) r q
     unfolding answerOf
-    answer-walk e k l = rw (le-leb (length d) mostInput h, e) (k, l)
+    answer-walk e k = rw (le-leb (length d) mostInput h, e) k
 
-pub answer-nothing : (o d : List ℕ) {x : Command} → length o < 2 ^ 64 → length d ≤ mostInput → x ≡ Usage → Told o (answerOf d x) 0 o
+pub answer-nothing : (o d : List ℕ) (x : Command) → length o < 2 ^ 64 → length d ≤ mostInput → x ≡ Usage → Put o 0 (answerOf d x) 0 o
 unfolding answerOf
-answer-nothing o d g h e = rw (le-leb (length d) mostInput h, e) (told (put-none o 0 g (omega arith)))
+answer-nothing o d x g h e = rw (le-leb (length d) mostInput h, e) (put-none o 0 g (omega arith))
 
 pub ruleset answers = (answer-long, answer-report, answer-map, answer-walk, answer-nothing, put-length, needs)

@@ -21,7 +21,7 @@ use Rattle.report.specs.Line.{field, line, spaced, ended, modeWord, name
 use Rattle.report.specs.Opening.{openOf, unless}
 use Rattle.report.specs.Map.{rowWords, rawWords, zeroWords, endWords, refusedWords, mappingLine, mapLineOf}
 use Rattle.report.specs.declared.opening.Opened.{Opened}
-use Rattle.report.proofs.Puts.{put-length, Told, told}
+use Rattle.report.proofs.Puts.{put-length}
 use Rattle.report.proofs.Lines.{line-last, line-more, line-field}
 
 -- The rule of `raw_row`
@@ -64,14 +64,14 @@ table-map d rows e h = rw (← e) h
 
 pub ruleset tableMaps = (table-map, put-length, needs)
 
--- Rules of `map_line`
+-- Rules of `put_map`
 module _ {o q : List ℕ} {r : ℕ} (d : List ℕ) (offset asked : ℕ) {x : Opened} (f : x ≡ openOf d) where
-  pub line-sound : x .verdict ≡ Sound → Put o 0 (mappingLine d (x .table .rows) (mapOf (x .table) offset asked)) r q → Told o (mapLineOf d offset asked) r q
+  pub line-sound : x .verdict ≡ Sound → Put o 0 (mappingLine d (x .table .rows) (mapOf (x .table) offset asked)) r q → Put o 0 (mapLineOf d offset asked) r q
   unfolding mapLineOf
-  line-sound g k = rw (← f, g) (told k)
+  line-sound g k = rw (← f, g) k
 
-  pub line-refused : {y : Refusal} → x .verdict ≡ Stopped y → Put o 0 (refusedLine y) r q → Told o (mapLineOf d offset asked) r q
+  pub line-refused : {y : Refusal} → x .verdict ≡ Stopped y → Put o 0 (refusedLine y) r q → Put o 0 (mapLineOf d offset asked) r q
   unfolding mapLineOf
-  line-refused g k = rw (← f, g) (told k)
+  line-refused g k = rw (← f, g) k
 
 pub ruleset mapLines = (line-sound, line-refused, put-length, needs)

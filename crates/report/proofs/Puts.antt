@@ -80,13 +80,6 @@ put-then {o} {q} {s} {x} {y} {at} {p} {r} h k =
 pub put-length : {o q x : List ℕ} {at r : ℕ} → Put o at x r q → length q ≡ length o
 put-length {o} {q} {x} {at} h = rw (h .bytes) (pasted-length o at x)
 
--- what an exported function promises: the length of the whole text, and the buffer with the text at its start
-abbrev pub Told : List ℕ → List ℕ → ℕ → List ℕ → Type 0
-Told o x r q = (r ≡ after 0 x) × (q ≡ pasted o 0 x)
-
-pub told : {o q x : List ℕ} {r : ℕ} → Put o 0 x r q → Told o x r q
-told h = (h .place, h .bytes)
-
 -- Rules of `put_byte`
 module _ (o : List ℕ) (at b : ℕ) (l : length o < 2 ^ 64) where
   pub byte-in : at < length o → Put o at (b ∷ []) (at + 1) (set o at b)

@@ -24,7 +24,7 @@ use Rattle.report.specs.Line.{line, linesTo, spaced, ended, nameIn, acce
 use Rattle.report.specs.Opening.{openOf, unless}
 use Rattle.report.specs.Report.{probeLine, zeroWords, flatWords, sourceWords, rowLine, headLines, tableLines, reportOf}
 use Rattle.report.specs.declared.opening.Opened.{Opened}
-use Rattle.report.proofs.Puts.{put-then, put-length, Told, told}
+use Rattle.report.proofs.Puts.{put-then, put-length}
 use Rattle.report.proofs.Lines.{line-last, line-more, lines-start, lines-next, lines-counted, lines-all}
 
 -- Rules of `probe_line`
@@ -95,16 +95,16 @@ table-put d v t h k = put-then h k
 
 pub ruleset tables = (table-put, put-length, needs)
 
--- Rules of `report`
+-- Rules of `put_report`
 module _ {o q s : List ℕ} {p r : ℕ} (d : List ℕ) {b : Bool} {x : Opened} (e : b ≡ probeOf d) (f : x ≡ openOf d) (h : Put o 0 (probeLine b) p q) where
   report-put : Put q p (unless (x .verdict) (tableLines d (x .version) (x .table))) r s → Put o 0 (reportOf d) r s
   unfolding reportOf
   report-put k = rw (← e, ← f) (put-then h k)
 
-  pub report-sound : x .verdict ≡ Sound → Put q p (tableLines d (x .version) (x .table)) r s → Told o (reportOf d) r s
-  report-sound g k = told (report-put (rw g k))
+  pub report-sound : x .verdict ≡ Sound → Put q p (tableLines d (x .version) (x .table)) r s → Put o 0 (reportOf d) r s
+  report-sound g k = report-put (rw g k)
 
-  pub report-refused : {y : Refusal} → x .verdict ≡ Refused y → Put q p (refusedLine y) r s → Told o (reportOf d) r s
-  report-refused g k = told (report-put (rw g k))
+  pub report-refused : {y : Refusal} → x .verdict ≡ Refused y → Put q p (refusedLine y) r s → Put o 0 (reportOf d) r s
+  report-refused g k = report-put (rw g k)
 
 pub ruleset reports = (report-sound, report-refused, put-length, needs)

@@ -31,7 +31,7 @@ use Rattle.report.specs.Line.{field, line, linesTo, spaced, ended, modeW
 use Rattle.report.specs.Opening.{openOf, unless}
 use Rattle.report.specs.Walk.{rawWords, pieceWords, pieceLine, stopText, stopLine, walkLines, walkLinesOf}
 use Rattle.report.specs.declared.opening.Opened.{Opened}
-use Rattle.report.proofs.Puts.{put-then, put-length, Told, told}
+use Rattle.report.proofs.Puts.{put-then, put-length}
 use Rattle.report.proofs.Lines.{line-last, line-more, line-field, lines-start, lines-next, lines-counted, lines-all}
 
 -- The rule of `raw_piece`
@@ -104,14 +104,14 @@ table-walk {o} {q} {s} {p} {r} d t places pos left e h k =
 
 pub ruleset tableWalks = (table-walk, put-length, needs)
 
--- Rules of `walk_lines`
+-- Rules of `put_walk`
 module _ {o q : List ℕ} {r : ℕ} (d : List ℕ) (offset asked places : ℕ) {x : Opened} (f : x ≡ openOf d) where
-  pub lines-sound : x .verdict ≡ Sound → Put o 0 (walkLines d (x .table .rows) (walkOf (x .table) places offset asked)) r q → Told o (walkLinesOf d offset asked places) r q
+  pub lines-sound : x .verdict ≡ Sound → Put o 0 (walkLines d (x .table .rows) (walkOf (x .table) places offset asked)) r q → Put o 0 (walkLinesOf d offset asked places) r q
   unfolding walkLinesOf
-  lines-sound g k = rw (← f, g) (told k)
+  lines-sound g k = rw (← f, g) k
 
-  pub lines-refused : {y : Refusal} → x .verdict ≡ Stopped y → Put o 0 (refusedLine y) r q → Told o (walkLinesOf d offset asked places) r q
+  pub lines-refused : {y : Refusal} → x .verdict ≡ Stopped y → Put o 0 (refusedLine y) r q → Put o 0 (walkLinesOf d offset asked places) r q
   unfolding walkLinesOf
-  lines-refused g k = rw (← f, g) (told k)
+  lines-refused g k = rw (← f, g) k
 
 pub ruleset walkTexts = (lines-sound, lines-refused, put-length, needs)

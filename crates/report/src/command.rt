@@ -1,12 +1,6 @@
-// What the program's arguments ask, and what it answers.
+// What the program's arguments ask.
 ghost use mathlib.Core.Path.{_≡_};
-ghost use Rattle.report.specs.Put.{pasted, after, Put};
-ghost use Rattle.report.specs.Command.{rangeOf, placesOf, commandOf, answerOf};
-use crate::line::refused_line;
-use crate::map::map_line;
-use crate::walk::walk_lines;
-use crate::whole::report;
-use descriptor::record::Refusal;
+ghost use Rattle.report.specs.Command.{rangeOf, placesOf, commandOf};
 use text::find::is;
 use text::number::Num;
 use text::number::number;
@@ -81,24 +75,4 @@ pub fn read_command(n: usize, mode: &[u8], a: &[u8], b: &[u8], c: &[u8]) -> Comm
         return Command::Usage;
     }
     Command::Usage
-}
-
-// Writes what the program answers to some input into a buffer, cut where the buffer ends; the length of the whole answer, within 2^64-1.
-pub fn answer(d: &[u8], asked: Command, out: &mut [u8]) -> usize
-    ensures { λ r. ⌜ r ≡ after 0 (answerOf (now (d .entry)) asked) ⌝ }
-    ensures { λ _. ⌜ now (out .exit) ≡ pasted (now (out .entry)) 0 (answerOf (now (d .entry)) asked) ⌝ }
-{
-    if 65536 < d.len() {
-        let long = Refusal {
-            number: 24,
-            second: 0,
-        };
-        return refused_line(long, out, 0);
-    }
-    match asked {
-        Command::Report => report(d, out),
-        Command::Map(offset, length) => map_line(d, offset, length, out),
-        Command::Walk(offset, length, places) => walk_lines(d, offset, length, places, out),
-        Command::Usage => 0,
-    }
 }

@@ -1,8 +1,9 @@
 // The answers as text, written into a buffer that the caller lends.
+pub mod answer;
 pub mod command;
 mod line;
-pub mod map;
+mod map;
 mod opening;
 mod put;
-pub mod walk;
-pub mod whole;
+mod walk;
+mod whole;

@@ -1,7 +1,6 @@
 // The line of a mapping.
-ghost use mathlib.Core.Path.{_≡_};
 ghost use Rattle.extents.specs.Map.{mapOf};
-ghost use Rattle.report.specs.Put.{pasted, after, Put};
+ghost use Rattle.report.specs.Put.{Put};
 ghost use Rattle.report.specs.Line.{line, nameOf};
 ghost use Rattle.report.specs.Map.{rowWords, rawWords, zeroWords, refusedWords, mappingLine, mapLineOf};
 use crate::line::field;
@@ -81,10 +80,9 @@ fn table_map(d: &[u8], t: Table, offset: u64, length: u64, out: &mut [u8]) -> us
     mapping_line(d, rows, m, out, 0)
 }
 
-// Writes what a descriptor's disk has at an offset, for at most a length, into a buffer, cut where the buffer ends; the length of the whole line, within 2^64-1.
-pub fn map_line(d: &[u8], offset: u64, length: u64, out: &mut [u8]) -> usize
-    ensures { λ r. ⌜ r ≡ after 0 (mapLineOf (now (d .entry)) offset length) ⌝ }
-    ensures { λ _. ⌜ now (out .exit) ≡ pasted (now (out .entry)) 0 (mapLineOf (now (d .entry)) offset length) ⌝ }
+// Puts the line of what a descriptor's disk has at an offset.
+pub fn put_map(d: &[u8], offset: u64, length: u64, out: &mut [u8]) -> usize
+    ensures { λ r. ⌜ Put (now (out .entry)) 0 (mapLineOf (now (d .entry)) offset length) r (now (out .exit)) ⌝ }
 {
     let opened = open(d);
     let verdict = opened.verdict;

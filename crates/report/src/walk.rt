@@ -1,7 +1,6 @@
 // The lines of a walk.
-ghost use mathlib.Core.Path.{_≡_};
 ghost use Rattle.extents.specs.Walk.{walkOf};
-ghost use Rattle.report.specs.Put.{pasted, after, Put};
+ghost use Rattle.report.specs.Put.{Put};
 ghost use Rattle.report.specs.Line.{line, linesTo, nameOf};
 ghost use Rattle.report.specs.Walk.{rawWords, pieceWords, pieceLine, stopText, stopLine, walkLines, walkLinesOf};
 use crate::line::field;
@@ -111,10 +110,9 @@ fn table_walk(d: &[u8], t: Table, offset: u64, length: u64, places: usize, out: 
     stop_line(walked, out, at)
 }
 
-// Writes the walk of a descriptor's disk from an offset on, for at most a length, with room for so many pieces, into a buffer, cut where the buffer ends; the length of the whole text, within 2^64-1.
-pub fn walk_lines(d: &[u8], offset: u64, length: u64, places: usize, out: &mut [u8]) -> usize
-    ensures { λ r. ⌜ r ≡ after 0 (walkLinesOf (now (d .entry)) offset length places) ⌝ }
-    ensures { λ _. ⌜ now (out .exit) ≡ pasted (now (out .entry)) 0 (walkLinesOf (now (d .entry)) offset length places) ⌝ }
+// Puts the lines of a walk of a descriptor's disk.
+pub fn put_walk(d: &[u8], offset: u64, length: u64, places: usize, out: &mut [u8]) -> usize
+    ensures { λ r. ⌜ Put (now (out .entry)) 0 (walkLinesOf (now (d .entry)) offset length places) r (now (out .exit)) ⌝ }
 {
     let opened = open(d);
     let verdict = opened.verdict;

@@ -1,6 +1,5 @@
 // The report of a descriptor.
-ghost use mathlib.Core.Path.{_≡_};
-ghost use Rattle.report.specs.Put.{pasted, after, Put};
+ghost use Rattle.report.specs.Put.{Put};
 ghost use Rattle.report.specs.Line.{line, linesTo, ended, accessWord};
 ghost use Rattle.report.specs.Report.{zeroWords, flatWords, sourceWords, rowLine, probeLine, headLines, tableLines, reportOf};
 use crate::line::access;
@@ -116,10 +115,9 @@ fn table_lines(d: &[u8], version: u32, t: Table, out: &mut [u8], at: usize) -> u
     row_lines(d, rows, count, out, at)
 }
 
-// Writes the report of a descriptor into a buffer, cut where the buffer ends; the length of the whole report, within 2^64-1.
-pub fn report(d: &[u8], out: &mut [u8]) -> usize
-    ensures { λ r. ⌜ r ≡ after 0 (reportOf (now (d .entry))) ⌝ }
-    ensures { λ _. ⌜ now (out .exit) ≡ pasted (now (out .entry)) 0 (reportOf (now (d .entry))) ⌝ }
+// Puts the report of a descriptor.
+pub fn put_report(d: &[u8], out: &mut [u8]) -> usize
+    ensures { λ r. ⌜ Put (now (out .entry)) 0 (reportOf (now (d .entry))) r (now (out .exit)) ⌝ }
 {
     let at = probe_line(probe(d), out, 0);
     let opened = open(d);

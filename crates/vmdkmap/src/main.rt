@@ -3,8 +3,8 @@
 // All answers are `report`'s, which are proved. Here bytes are read and written.
 ghost use mathlib.Core.Path.{_≡_};
 ghost use lib.ListN.{length};
+use report::answer::answer;
 use report::command::Command;
-use report::command::answer;
 use report::command::read_command;
 
 // Room for the input, and for one byte more, by which an input that is too long is told.

@@ -4,8 +4,8 @@
 // which takes the answers from compare/paper.py.
 ghost use mathlib.Core.Path.{_≡_};
 ghost use lib.ListN.{length};
+use report::answer::answer;
 use report::command::Command;
-use report::command::answer;
 use report::command::read_command;
 use text::words::Word;
 

@@ -1,15 +1,15 @@
 use Rattle.report.proofs.Commands.{answers}
-use Rattle.report.proofs.command.answer.Statement.{statement}
-use Rattle.report.proofs.command.answer.Tie as tie
-use Rattle.report.proofs.command.answer.Reads as reads
-use Rattle.report.proofs.command.answer.Lts as lts
+use Rattle.report.proofs.answer.put_answer.Statement.{statement}
+use Rattle.report.proofs.answer.put_answer.Tie as tie
+use Rattle.report.proofs.answer.put_answer.Reads as reads
+use Rattle.report.proofs.answer.put_answer.Lts as lts
 use Rattle.report.proofs.line.refused_line.Reads as refused-line-reads
-use Rattle.report.proofs.map.map_line.Reads as map-line-reads
-use Rattle.report.proofs.walk.walk_lines.Reads as walk-lines-reads
-use Rattle.report.proofs.whole.report.Reads as report-reads
+use Rattle.report.proofs.map.put_map.Reads as put-map-reads
+use Rattle.report.proofs.walk.put_walk.Reads as put-walk-reads
+use Rattle.report.proofs.whole.put_report.Reads as put-report-reads
 
-pub answer-spec : {M : Type 1} → statement M
-answer-spec =
+pub put-answer-spec : {M : Type 1} → statement M
+put-answer-spec =
     tie.close
     (tie.spec
     (λ c κs. search answers)
