@@ -80,6 +80,18 @@ fn is_whole(n: usize) -> bool {
     libc::read(0, &mut next) == 0
 }
 
+// Writes the answer to an input, by way of a buffer.
+fn respond(d: &[u8], asked: Command, out: &mut [u8]) {
+    let n = answer(d, asked, out);
+    if out.len() < n {
+        io::write_all(2, b"vmdkmap: the answer is too long\n");
+        return;
+    }
+    if !io::write_all(1, &out[..n]) {
+        os::fail(b"vmdkmap: standard output");
+    }
+}
+
 // Reads the input and writes the answer.
 fn run(asked: Command) {
     let mut input = input_buffer();
@@ -89,14 +101,7 @@ fn run(asked: Command) {
         return;
     }
     let mut out = output_buffer();
-    let m = answer(&input[..n], asked, &mut out);
-    if 81920 < m {
-        io::write_all(2, b"vmdkmap: the answer is too long\n");
-        return;
-    }
-    if !io::write_all(1, &out[..m]) {
-        os::fail(b"vmdkmap: standard output");
-    }
+    respond(&input[..n], asked, &mut out);
 }
 
 fn main() {

@@ -67,17 +67,22 @@ fn asked(l: &[u8], from: usize) -> Command {
     read_command(n, mode, a, b, c)
 }
 
+// Writes the answer to an input, by way of a buffer.
+fn respond(d: &[u8], asked: Command, out: &mut [u8]) {
+    let n = answer(d, asked, out);
+    if out.len() < n {
+        io::write_all(1, b"too long\n");
+        return;
+    }
+    io::write_all(1, &out[..n]);
+}
+
 // Writes the answer to a file.
 fn run(fd: i32, asked: Command) {
     let mut input = input_buffer();
     let n = io::read_full(fd, &mut input);
     let mut out = output_buffer();
-    let m = answer(&input[..n], asked, &mut out);
-    if 81920 < m {
-        io::write_all(1, b"too long\n");
-        return;
-    }
-    io::write_all(1, &out[..m]);
+    respond(&input[..n], asked, &mut out);
 }
 
 // Writes a case and its answer; a file that is not there, and a usage, are told.
