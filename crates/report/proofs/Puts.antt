@@ -5,7 +5,7 @@ use native.Mathlib.Omega.{arith}
 use native.Mathlib.Numerals.{add-one}
 use mathlib.Core.List.{List, [], _∷_, _++_}
 use mathlib.Core.Path.{_≡_, refl, sym, ap, _∙_}
-use lib.ListN.{length, getD, take, set, length-append}
+use lib.ListN.{length, getD, take, drop, set, length-append}
 use lib.Seq.{take-suc, take-all}
 use lib.Dec.{leb}
 use mir.Syntax.{w64}
@@ -51,6 +51,20 @@ pasted-join (b ∷ r) zero [] y = refl
 pasted-join (b ∷ r) zero (c ∷ x) y =
     let e : zero + suc (length x) ≡ suc (zero + length x) = omega arith in
     rw e (ap (_∷_ c) (pasted-join r zero x y))
+
+-- where there is room, the text stands between the bytes before and after it
+pub pasted-whole : (o : List ℕ) (at : ℕ) (x : List ℕ) → at + length x ≤ length o → pasted o at x ≡ take at o ++ (x ++ drop (at + length x) o)
+unfolding pasted
+pasted-whole [] zero [] h = refl
+pasted-whole [] zero (c ∷ x) h = absurd (omega arith)
+pasted-whole [] (suc at) x h = absurd (omega arith)
+pasted-whole (b ∷ r) (suc at) x h =
+    let e : suc at + length x ≡ suc (at + length x) = omega arith in
+    rw (e, pasted-whole r at x (omega arith))
+pasted-whole (b ∷ r) zero [] h = refl
+pasted-whole (b ∷ r) zero (c ∷ x) h =
+    let e : zero + suc (length x) ≡ suc (zero + length x) = omega arith in
+    rw (e, pasted-whole r zero x (omega arith))
 
 -- no buffer is longer than 2^64-1, so a place past that is as good as one there
 pasted-clip : (o : List ℕ) (n : ℕ) (y : List ℕ) → length o ≤ largest → pasted o (min n largest) y ≡ pasted o n y
