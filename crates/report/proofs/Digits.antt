@@ -35,7 +35,7 @@ unfolding value
 value-snoc [] b = omega (arith, pow-zero 10)
 value-snoc (x ∷ xs) b =
     let l : length (xs ++ (b ∷ [])) ≡ suc (length xs) = simp length-append (omega arith) in
-    let p : (x - 0x30) * 10 ^ suc (length xs) ≡ (x - 0x30) * 10 ^ length xs * 10 = 
+    let p : (x - 0x30) * 10 ^ suc (length xs) ≡ (x - 0x30) * 10 ^ length xs * 10 =
     rw (pow-succ' 10 (length xs), mul-comm 10 (10 ^ length xs), ← mul-assoc (x - 0x30) (10 ^ length xs) 10) in
     rw (l, p, value-snoc xs b) (omega arith)
 

@@ -19,7 +19,7 @@ use Rattle.extents.specs.Build.{noRow}
 use Rattle.extents.specs.declared.table.Source.{Source}
 use Rattle.extents.specs.declared.table.Source.the-variants.{NoAccess, Zero, Flat}
 use Rattle.extents.specs.declared.table.Row.{Row}
-use Rattle.report.specs.Put.{pasted, after, Put}
+use Rattle.report.specs.Put.{Put}
 use Rattle.report.specs.Decimal.{decimalOf}
 use Rattle.report.specs.Line.{spaced, ended, field, line, linesFrom, linesTo, nameIn, nameOf, sourceAt, accessWord, modeWord, refusedLine}
 use Rattle.report.proofs.Puts.{put-none, put-then, put-length}

@@ -10,15 +10,13 @@ use Rattle.descriptor.specs.declared.record.Refusal.{Refusal}
 use Rattle.descriptor.specs.declared.record.Verdict.the-variants.{Sound, Refused as Stopped}
 use Rattle.extents.specs.Map.{mapOf}
 use Rattle.extents.specs.declared.table.Row.{Row}
-use Rattle.extents.specs.declared.table.Table.{Table}
 use Rattle.extents.specs.declared.table.Source.{Source}
-use Rattle.extents.specs.declared.table.ShallowMapping.{ShallowMapping}
 use Rattle.extents.specs.declared.table.ShallowMapping.the-variants.{Eof, Zero, Raw, Refused}
 use Rattle.extents.specs.declared.table.Mapping.{Mapping}
 use Rattle.report.specs.Put.{Put}
 use Rattle.report.specs.Decimal.{decimalOf}
 use Rattle.report.specs.Line.{field, line, spaced, ended, modeWord, nameOf, sourceAt, refusedLine}
-use Rattle.report.specs.Opening.{openOf, unless}
+use Rattle.report.specs.Opening.{openOf}
 use Rattle.report.specs.Map.{rowWords, rawWords, zeroWords, endWords, refusedWords, mappingLine, mapLineOf}
 use Rattle.report.specs.declared.opening.Opened.{Opened}
 use Rattle.report.proofs.Puts.{put-length}

@@ -8,13 +8,11 @@ use mathlib.Core.Path.{_≡_, refl, sym, ap, _∙_}
 use lib.ListN.{length, getD, take, drop, set, length-append}
 use lib.Seq.{take-suc, take-all}
 use lib.Dec.{leb}
-use mir.Syntax.{w64}
-use mir.Val.{Fits}
 use borrow.Author.Needs.{needs}
 use borrow.Author.Tests.{leb-true, leb-false}
 use Rattle.text.specs.Sector.{largest}
 use Rattle.text.proofs.Flat.{by-test}
-use Rattle.report.specs.Put.{pasted, after, Put}
+use Rattle.report.specs.Put.{pasted, Put}
 
 -- ---- a buffer with a text at a place
 pasted-none : (o : List ℕ) (at : ℕ) → pasted o at [] ≡ o
@@ -85,8 +83,8 @@ put-then {o} {q} {s} {x} {y} {at} {p} {r} h k =
     record {
       place = rw length-append (omega (arith, h .place, k .place));
       bytes =
-        let e : pasted q p y ≡ pasted q (at + length x) y = rw (h .place) (pasted-clip q (at + length x) y (rw (h .bytes, pasted-length o at x) (h .room))) in
-        k .bytes ∙ e ∙ rw (h .bytes) (pasted-join o at x y);
+          let e : pasted q p y ≡ pasted q (at + length x) y = rw (h .place) (pasted-clip q (at + length x) y (rw (h .bytes, pasted-length o at x) (h .room))) in
+          k .bytes ∙ e ∙ rw (h .bytes) (pasted-join o at x y);
       room = h .room;
     }
 

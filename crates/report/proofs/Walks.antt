@@ -2,10 +2,10 @@
 -- Assumes nothing.
 use Prim.Native.Nat.{ℕ, _+_, _≤_, _<_, min}
 use native.Mathlib.Omega.{arith}
-use mathlib.Core.List.{List, [], _∷_, _++_}
+use mathlib.Core.List.{List, [], _∷_}
 use mathlib.Core.Bool.{Bool}
-use mathlib.Core.Path.{_≡_, refl}
-use lib.ListN.{length, getD, take, drop}
+use mathlib.Core.Path.{_≡_}
+use lib.ListN.{length, getD, drop}
 use lib.Seq.{take-append-seam, take-all}
 use borrow.Author.Needs.{needs}
 use Rattle.descriptor.specs.Key.{ascii}
@@ -28,7 +28,7 @@ use Rattle.extents.specs.declared.table.Walked.{Walked}
 use Rattle.report.specs.Put.{Put}
 use Rattle.report.specs.Decimal.{decimalOf}
 use Rattle.report.specs.Line.{field, line, linesTo, spaced, ended, modeWord, nameOf, sourceAt, refusedLine}
-use Rattle.report.specs.Opening.{openOf, unless}
+use Rattle.report.specs.Opening.{openOf}
 use Rattle.report.specs.Walk.{rawWords, pieceWords, pieceLine, stopText, stopLine, walkLines, walkLinesOf}
 use Rattle.report.specs.declared.opening.Opened.{Opened}
 use Rattle.report.proofs.Puts.{put-then, put-length}

@@ -5,7 +5,6 @@ use mathlib.Core.Bool.{Bool}
 use Rattle.descriptor.specs.Key.{ascii}
 use Rattle.extents.specs.Map.{mapOf}
 use Rattle.extents.specs.declared.table.Row.{Row}
-use Rattle.extents.specs.declared.table.Table.{Table}
 use Rattle.extents.specs.declared.table.ShallowMapping.{ShallowMapping}
 use Rattle.extents.specs.declared.table.ShallowMapping.the-variants.{Eof, Zero, Raw, Refused}
 use Rattle.extents.specs.declared.table.Mapping.{Mapping}

@@ -19,7 +19,15 @@ use extents::table::Source;
 use extents::table::Table;
 
 // Puts a raw mapping's row, from its number to the line's end.
-fn raw_row(d: &[u8], row: u64, writable: bool, looked: u64, s: Source, out: &mut [u8], at: usize) -> usize
+fn raw_row(
+    d: &[u8],
+    row: u64,
+    writable: bool,
+    looked: u64,
+    s: Source,
+    out: &mut [u8],
+    at: usize,
+) -> usize
     ensures { λ r. ⌜ Put (now (out .entry)) at (line (rowWords row writable looked (nameOf (now (d .entry)) s))) r (now (out .exit)) ⌝ }
 {
     let at = field(out, at, b"row", row);
@@ -38,7 +46,17 @@ fn zero_line(run: u64, row: u64, looked: u64, out: &mut [u8], at: usize) -> usiz
 }
 
 // Puts a raw mapping's line.
-fn raw_line(d: &[u8], rows: [Row; 128], run: u64, looked: u64, row: usize, offset: u64, writable: bool, out: &mut [u8], at: usize) -> usize
+fn raw_line(
+    d: &[u8],
+    rows: [Row; 128],
+    run: u64,
+    looked: u64,
+    row: usize,
+    offset: u64,
+    writable: bool,
+    out: &mut [u8],
+    at: usize,
+) -> usize
     ensures { λ r. ⌜ Put (now (out .entry)) at (line (rawWords (now (d .entry)) rows run looked row offset writable)) r (now (out .exit)) ⌝ }
 {
     let s = row_source(rows, row);

@@ -23,7 +23,15 @@ use extents::table::Table;
 use extents::table::Walked;
 
 // Puts a raw piece's place in its file, from its offset to the line's end.
-fn raw_piece(d: &[u8], offset: u64, row: u64, writable: bool, s: Source, out: &mut [u8], at: usize) -> usize
+fn raw_piece(
+    d: &[u8],
+    offset: u64,
+    row: u64,
+    writable: bool,
+    s: Source,
+    out: &mut [u8],
+    at: usize,
+) -> usize
     ensures { λ r. ⌜ Put (now (out .entry)) at (line (rawWords offset row writable (nameOf (now (d .entry)) s))) r (now (out .exit)) ⌝ }
 {
     let at = field(out, at, b"raw", offset);
@@ -57,7 +65,14 @@ fn piece_line(d: &[u8], rows: [Row; 128], i: usize, p: Piece, out: &mut [u8], at
 }
 
 // Puts the lines of the first pieces, as many as are counted.
-fn piece_lines(d: &[u8], rows: [Row; 128], pieces: [Piece; 128], count: usize, out: &mut [u8], at: usize) -> usize
+fn piece_lines(
+    d: &[u8],
+    rows: [Row; 128],
+    pieces: [Piece; 128],
+    count: usize,
+    out: &mut [u8],
+    at: usize,
+) -> usize
     ensures { λ r. ⌜ Put (now (out .entry)) at (linesTo (pieceLine (now (d .entry)) rows) pieces count) r (now (out .exit)) ⌝ }
 {
     let mut next = at;

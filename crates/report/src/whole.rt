@@ -48,7 +48,14 @@ fn zero_source(a: VmdkAccessType, out: &mut [u8], at: usize) -> usize
 }
 
 // Puts the source of a flat row, to the end of its line.
-fn flat_source(d: &[u8], a: VmdkAccessType, start: u64, name: Text, out: &mut [u8], at: usize) -> usize
+fn flat_source(
+    d: &[u8],
+    a: VmdkAccessType,
+    start: u64,
+    name: Text,
+    out: &mut [u8],
+    at: usize,
+) -> usize
     ensures { λ r. ⌜ Put (now (out .entry)) at (line (flatWords (now (d .entry)) a start name)) r (now (out .exit)) ⌝ }
 {
     let at = word(out, at, b"FLAT");

@@ -58,14 +58,23 @@ fn asked() -> Command {
     if is_cut() {
         return Command::Usage;
     }
-    read_command(arguments(), &mode[..mode_length], &a[..a_length], &b[..b_length], &c[..c_length])
+    read_command(
+        arguments(),
+        &mode[..mode_length],
+        &a[..a_length],
+        &b[..b_length],
+        &c[..c_length],
+    )
 }
 
 // Writes each mode, with an example, on standard error.
 fn usage() {
     io::write_all(2, b"usage: vmdkmap [report] < DESCRIPTOR\n");
     io::write_all(2, b"       vmdkmap map OFFSET LENGTH < DESCRIPTOR\n");
-    io::write_all(2, b"       vmdkmap walk OFFSET LENGTH PLACES < DESCRIPTOR    (PLACES is 0 to 128)\n");
+    io::write_all(
+        2,
+        b"       vmdkmap walk OFFSET LENGTH PLACES < DESCRIPTOR    (PLACES is 0 to 128)\n",
+    );
     io::write_all(2, b"as in: vmdkmap < reel.vmdk\n");
     io::write_all(2, b"       vmdkmap map 2047 100 < reel.vmdk\n");
     io::write_all(2, b"       vmdkmap walk 0 4096 128 < reel.vmdk\n");

@@ -1,12 +1,8 @@
+-- `put_answer` meets its contract. A long input is refused with 24, whatever is asked. Else each command's answer is put by its own function, and a
+-- usage is empty. Assumes nothing.
 use Rattle.report.proofs.Commands.{answers}
 use Rattle.report.proofs.answer.put_answer.Statement.{statement}
 use Rattle.report.proofs.answer.put_answer.Tie as tie
-use Rattle.report.proofs.answer.put_answer.Reads as reads
-use Rattle.report.proofs.answer.put_answer.Lts as lts
-use Rattle.report.proofs.line.refused_line.Reads as refused-line-reads
-use Rattle.report.proofs.map.put_map.Reads as put-map-reads
-use Rattle.report.proofs.walk.put_walk.Reads as put-walk-reads
-use Rattle.report.proofs.whole.put_report.Reads as put-report-reads
 
 pub put-answer-spec : {M : Type 1} → statement M
 put-answer-spec =

@@ -1,10 +1,7 @@
+-- `places` meets its contract. A range and a number up to 128 make a walk. Anything else makes a usage. Assumes nothing.
 use Rattle.report.proofs.Commands.{placings}
 use Rattle.report.proofs.command.places.Statement.{statement}
 use Rattle.report.proofs.command.places.Tie as tie
-use Rattle.report.proofs.command.places.Reads as reads
-use Rattle.report.proofs.command.places.Lts as lts
-use Rattle.report.proofs.command.range.Reads as range-reads
-use Rattle.text.proofs.number.number.Reads as number-reads
 
 pub places-spec : {M : Type 1} → statement M
 places-spec =

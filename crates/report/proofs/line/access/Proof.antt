@@ -1,9 +1,7 @@
+-- `access` meets its contract. Each access has its word. The word of the one at hand is put. Assumes nothing.
 use Rattle.report.proofs.Lines.{accesses}
 use Rattle.report.proofs.line.access.Statement.{statement}
 use Rattle.report.proofs.line.access.Tie as tie
-use Rattle.report.proofs.line.access.Reads as reads
-use Rattle.report.proofs.line.access.Lts as lts
-use Rattle.report.proofs.line.word.Reads as word-reads
 
 pub access-spec : {M : Type 1} → statement M
 access-spec =

@@ -1,9 +1,7 @@
+-- `mode` meets its contract. What may be written is RW, and what may not is RDONLY. The word of the case at hand is put. Assumes nothing.
 use Rattle.report.proofs.Lines.{modes}
 use Rattle.report.proofs.line.mode.Statement.{statement}
 use Rattle.report.proofs.line.mode.Tie as tie
-use Rattle.report.proofs.line.mode.Reads as reads
-use Rattle.report.proofs.line.mode.Lts as lts
-use Rattle.report.proofs.line.word.Reads as word-reads
 
 pub mode-spec : {M : Type 1} → statement M
 mode-spec =

@@ -1,8 +1,8 @@
+-- `name` meets its contract. A part of the descriptor's bytes is what its place and length say, cut where the bytes end. Where none is left, it is
+-- empty. Assumes nothing.
 use Rattle.report.proofs.Lines.{names}
 use Rattle.report.proofs.line.name.Statement.{statement}
 use Rattle.report.proofs.line.name.Tie as tie
-use Rattle.report.proofs.line.name.Reads as reads
-use Rattle.report.proofs.line.name.Lts as lts
 
 pub name-spec : {M : Type 1} → statement M
 name-spec =

@@ -1,10 +1,8 @@
+-- `refused_line` meets its contract. The word and the first number are put as a field, and the second number ends the line. That is the line of the
+-- three. Assumes nothing.
 use Rattle.report.proofs.Lines.{refusals}
 use Rattle.report.proofs.line.refused_line.Statement.{statement}
 use Rattle.report.proofs.line.refused_line.Tie as tie
-use Rattle.report.proofs.line.refused_line.Reads as reads
-use Rattle.report.proofs.line.refused_line.Lts as lts
-use Rattle.report.proofs.line.field.Reads as field-reads
-use Rattle.report.proofs.line.last_number.Reads as last-number-reads
 
 pub refused-line-spec : {M : Type 1} → statement M
 refused-line-spec =

@@ -1,10 +1,8 @@
+-- `piece_line` meets its contract. Two numbers are put, each with its space, and then the source to the line's end. A source has at least one word,
+-- so that the two are not the line's last. Assumes nothing.
 use Rattle.report.proofs.Walks.{pieceParts}
 use Rattle.report.proofs.walk.piece_line.Statement.{statement}
 use Rattle.report.proofs.walk.piece_line.Tie as tie
-use Rattle.report.proofs.walk.piece_line.Reads as reads
-use Rattle.report.proofs.walk.piece_line.Lts as lts
-use Rattle.report.proofs.line.number.Reads as number-reads
-use Rattle.report.proofs.walk.piece_source.Reads as piece-source-reads
 
 pub piece-line-spec : {M : Type 1} → statement M
 piece-line-spec =

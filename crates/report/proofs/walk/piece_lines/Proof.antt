@@ -1,3 +1,5 @@
+-- `piece_lines` meets its contract. The invariant: the lines of the first i pieces are put, and i is at most the count. A turn puts one more; past
+-- 128 pieces there are none, whatever the count. Assumes nothing.
 use Prim.Native.Nat.{_-_, _≤_}
 use Rattle.report.specs.Put.{Put}
 use Rattle.report.specs.Line.{linesTo}
@@ -5,9 +7,6 @@ use Rattle.report.specs.Walk.{pieceLine}
 use Rattle.report.proofs.Walks.{pieceLists}
 use Rattle.report.proofs.walk.piece_lines.Statement.{statement}
 use Rattle.report.proofs.walk.piece_lines.Tie as tie
-use Rattle.report.proofs.walk.piece_lines.Reads as reads
-use Rattle.report.proofs.walk.piece_lines.Lts as lts
-use Rattle.report.proofs.walk.piece_line.Reads as piece-line-reads
 
 abbrev Inv-loop : tie.InvT-loop
 Inv-loop d rows count out₀ at pieces next₀ i₀ out next i = Put out₀ at (linesTo (pieceLine d rows) pieces i) next out × (i ≤ count)

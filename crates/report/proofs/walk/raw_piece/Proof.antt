@@ -1,11 +1,8 @@
+-- `raw_piece` meets its contract. Two fields, the access and the name are put one after the other. They are the words of the definition. Assumes
+-- nothing.
 use Rattle.report.proofs.Walks.{pieceParts}
 use Rattle.report.proofs.walk.raw_piece.Statement.{statement}
 use Rattle.report.proofs.walk.raw_piece.Tie as tie
-use Rattle.report.proofs.walk.raw_piece.Reads as reads
-use Rattle.report.proofs.walk.raw_piece.Lts as lts
-use Rattle.report.proofs.line.field.Reads as field-reads
-use Rattle.report.proofs.line.last_source_name.Reads as last-source-name-reads
-use Rattle.report.proofs.line.mode.Reads as mode-reads
 
 pub raw-piece-spec : {M : Type 1} → statement M
 raw-piece-spec =

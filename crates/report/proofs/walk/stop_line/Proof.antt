@@ -1,12 +1,8 @@
+-- `stop_line` meets its contract. The stop's text is put, and then the position, the pieces and the rows looked at. They are joined as the definition
+-- has them. Assumes nothing.
 use Rattle.report.proofs.Walks.{stops}
 use Rattle.report.proofs.walk.stop_line.Statement.{statement}
 use Rattle.report.proofs.walk.stop_line.Tie as tie
-use Rattle.report.proofs.walk.stop_line.Reads as reads
-use Rattle.report.proofs.walk.stop_line.Lts as lts
-use Rattle.report.proofs.line.field.Reads as field-reads
-use Rattle.report.proofs.line.last_field.Reads as last-field-reads
-use Rattle.report.proofs.line.number.Reads as number-reads
-use Rattle.report.proofs.walk.stop_word.Reads as stop-word-reads
 
 pub stop-line-spec : {M : Type 1} → statement M
 stop-line-spec =

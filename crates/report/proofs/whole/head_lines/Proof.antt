@@ -1,9 +1,8 @@
+-- `head_lines` meets its contract. Three lines of a word and a number are put one after the other. They are joined as the definition has them.
+-- Assumes nothing.
 use Rattle.report.proofs.Reports.{heads}
 use Rattle.report.proofs.whole.head_lines.Statement.{statement}
 use Rattle.report.proofs.whole.head_lines.Tie as tie
-use Rattle.report.proofs.whole.head_lines.Reads as reads
-use Rattle.report.proofs.whole.head_lines.Lts as lts
-use Rattle.report.proofs.line.last_field.Reads as last-field-reads
 
 pub head-lines-spec : {M : Type 1} → statement M
 head-lines-spec =

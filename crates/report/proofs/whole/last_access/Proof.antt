@@ -1,9 +1,7 @@
+-- `last_access` meets its contract. Each access has its word. The word of the one at hand is put, and then 0A. Assumes nothing.
 use Rattle.report.proofs.Lines.{accesses}
 use Rattle.report.proofs.whole.last_access.Statement.{statement}
 use Rattle.report.proofs.whole.last_access.Tie as tie
-use Rattle.report.proofs.whole.last_access.Reads as reads
-use Rattle.report.proofs.whole.last_access.Lts as lts
-use Rattle.report.proofs.line.last_word.Reads as last-word-reads
 
 pub last-access-spec : {M : Type 1} → statement M
 last-access-spec =

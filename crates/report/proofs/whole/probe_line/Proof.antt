@@ -1,10 +1,7 @@
+-- `probe_line` meets its contract. The word is put, and then the answer's word with 0A. Which of the two it is, the test says. Assumes nothing.
 use Rattle.report.proofs.Reports.{probes}
 use Rattle.report.proofs.whole.probe_line.Statement.{statement}
 use Rattle.report.proofs.whole.probe_line.Tie as tie
-use Rattle.report.proofs.whole.probe_line.Reads as reads
-use Rattle.report.proofs.whole.probe_line.Lts as lts
-use Rattle.report.proofs.line.last_word.Reads as last-word-reads
-use Rattle.report.proofs.line.word.Reads as word-reads
 
 pub probe-line-spec : {M : Type 1} → statement M
 probe-line-spec =

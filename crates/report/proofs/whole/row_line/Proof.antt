@@ -1,10 +1,8 @@
+-- `row_line` meets its contract. Three numbers are put, each with its space, and then the source to the line's end. A source has at least one word,
+-- so that the three are not the line's last. Assumes nothing.
 use Rattle.report.proofs.Reports.{rows}
 use Rattle.report.proofs.whole.row_line.Statement.{statement}
 use Rattle.report.proofs.whole.row_line.Tie as tie
-use Rattle.report.proofs.whole.row_line.Reads as reads
-use Rattle.report.proofs.whole.row_line.Lts as lts
-use Rattle.report.proofs.line.number.Reads as number-reads
-use Rattle.report.proofs.whole.source.Reads as source-reads
 
 pub row-line-spec : {M : Type 1} → statement M
 row-line-spec =

@@ -1,3 +1,5 @@
+-- `row_lines` meets its contract. The invariant: the lines of the first i rows are put, and i is at most the count. A turn puts one more; past 128
+-- rows there are none, whatever the count. Assumes nothing.
 use Prim.Native.Nat.{_-_, _≤_}
 use Rattle.report.specs.Put.{Put}
 use Rattle.report.specs.Line.{linesTo}
