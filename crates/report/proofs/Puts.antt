@@ -5,16 +5,14 @@ use native.Mathlib.Omega.{arith}
 use native.Mathlib.Numerals.{add-one}
 use mathlib.Core.List.{List, [], _∷_, _++_}
 use mathlib.Core.Path.{_≡_, refl, sym, ap, _∙_}
-use lib.ListN.{length, getD, take, set, length-append}
+use lib.ListN.{length, getD, take, drop, set, length-append}
 use lib.Seq.{take-suc, take-all}
 use lib.Dec.{leb}
-use mir.Syntax.{w64}
-use mir.Val.{Fits}
 use borrow.Author.Needs.{needs}
 use borrow.Author.Tests.{leb-true, leb-false}
 use Rattle.text.specs.Sector.{largest}
 use Rattle.text.proofs.Flat.{by-test}
-use Rattle.report.specs.Put.{pasted, after, Put}
+use Rattle.report.specs.Put.{pasted, Put}
 
 -- ---- a buffer with a text at a place
 pasted-none : (o : List ℕ) (at : ℕ) → pasted o at [] ≡ o
@@ -52,6 +50,20 @@ pasted-join (b ∷ r) zero (c ∷ x) y =
     let e : zero + suc (length x) ≡ suc (zero + length x) = omega arith in
     rw e (ap (_∷_ c) (pasted-join r zero x y))
 
+-- where there is room, the text stands between the bytes before and after it
+pub pasted-whole : (o : List ℕ) (at : ℕ) (x : List ℕ) → at + length x ≤ length o → pasted o at x ≡ take at o ++ (x ++ drop (at + length x) o)
+unfolding pasted
+pasted-whole [] zero [] h = refl
+pasted-whole [] zero (c ∷ x) h = absurd (omega arith)
+pasted-whole [] (suc at) x h = absurd (omega arith)
+pasted-whole (b ∷ r) (suc at) x h =
+    let e : suc at + length x ≡ suc (at + length x) = omega arith in
+    rw (e, pasted-whole r at x (omega arith))
+pasted-whole (b ∷ r) zero [] h = refl
+pasted-whole (b ∷ r) zero (c ∷ x) h =
+    let e : zero + suc (length x) ≡ suc (zero + length x) = omega arith in
+    rw (e, pasted-whole r zero x (omega arith))
+
 -- no buffer is longer than 2^64-1, so a place past that is as good as one there
 pasted-clip : (o : List ℕ) (n : ℕ) (y : List ℕ) → length o ≤ largest → pasted o (min n largest) y ≡ pasted o n y
 pasted-clip o n y h =
@@ -71,8 +83,8 @@ put-then {o} {q} {s} {x} {y} {at} {p} {r} h k =
     record {
       place = rw length-append (omega (arith, h .place, k .place));
       bytes =
-        let e : pasted q p y ≡ pasted q (at + length x) y = rw (h .place) (pasted-clip q (at + length x) y (rw (h .bytes, pasted-length o at x) (h .room))) in
-        k .bytes ∙ e ∙ rw (h .bytes) (pasted-join o at x y);
+          let e : pasted q p y ≡ pasted q (at + length x) y = rw (h .place) (pasted-clip q (at + length x) y (rw (h .bytes, pasted-length o at x) (h .room))) in
+          k .bytes ∙ e ∙ rw (h .bytes) (pasted-join o at x y);
       room = h .room;
     }
 

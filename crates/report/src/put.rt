@@ -4,7 +4,7 @@ ghost use Rattle.report.specs.Put.{Put};
 ghost use Rattle.report.specs.Decimal.{decimalOf};
 
 // Puts a byte at a place, if there is room; the place after it.
-fn put_byte(out: &mut [u8], at: usize, b: u8) -> usize
+pub fn put_byte(out: &mut [u8], at: usize, b: u8) -> usize
     ensures { λ r. ⌜ Put (now (out .entry)) at (b ∷ []) r (now (out .exit)) ⌝ }
 {
     if at < out.len() {

@@ -1,3 +1,5 @@
+-- `put` meets its contract. The invariant: the text's first i bytes are put, and `next` is the place after them. A turn puts one more; the measure is
+-- what is left of the text. Assumes nothing.
 use Prim.Native.Nat.{_-_}
 use lib.ListN.{length}
 use Rattle.report.specs.Put.{Put}

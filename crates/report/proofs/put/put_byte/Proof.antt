@@ -1,3 +1,5 @@
+-- `put_byte` meets its contract. A byte within the buffer is stored, and one past its end is only counted. At the last place that a number can name,
+-- the count stays. Assumes nothing.
 use Rattle.report.proofs.Puts.{bytesPut}
 use Rattle.report.proofs.put.put_byte.Statement.{statement}
 use Rattle.report.proofs.put.put_byte.Tie as tie

@@ -1,0 +1,65 @@
+// The answers. Each is written into a buffer that the caller lends, and cut where the buffer ends; what comes back is the length of
+// the whole answer, within 2^64-1.
+ghost use mathlib.Core.Path.{_≡_};
+ghost use Rattle.report.specs.Put.{pasted, after, Put};
+ghost use Rattle.report.specs.Report.{reportOf};
+ghost use Rattle.report.specs.Map.{mapLineOf};
+ghost use Rattle.report.specs.Walk.{walkLinesOf};
+ghost use Rattle.report.specs.Command.{answerOf};
+use crate::command::Command;
+use crate::line::refused_line;
+use crate::map::put_map;
+use crate::walk::put_walk;
+use crate::whole::put_report;
+use descriptor::record::Refusal;
+
+// The report of a descriptor.
+pub fn report(d: &[u8], out: &mut [u8]) -> usize
+    ensures { λ r. ⌜ r ≡ after 0 (reportOf (now (d .entry))) ⌝ }
+    ensures { λ _. ⌜ now (out .exit) ≡ pasted (now (out .entry)) 0 (reportOf (now (d .entry))) ⌝ }
+{
+    put_report(d, out)
+}
+
+// What a descriptor's disk has at an offset, for at most a length.
+pub fn map_line(d: &[u8], offset: u64, length: u64, out: &mut [u8]) -> usize
+    ensures { λ r. ⌜ r ≡ after 0 (mapLineOf (now (d .entry)) offset length) ⌝ }
+    ensures { λ _. ⌜ now (out .exit) ≡ pasted (now (out .entry)) 0 (mapLineOf (now (d .entry)) offset length) ⌝ }
+{
+    put_map(d, offset, length, out)
+}
+
+// The walk of a descriptor's disk from an offset on, for at most a length, with room for so many pieces.
+pub fn walk_lines(d: &[u8], offset: u64, length: u64, places: usize, out: &mut [u8]) -> usize
+    ensures { λ r. ⌜ r ≡ after 0 (walkLinesOf (now (d .entry)) offset length places) ⌝ }
+    ensures { λ _. ⌜ now (out .exit) ≡ pasted (now (out .entry)) 0 (walkLinesOf (now (d .entry)) offset length places) ⌝ }
+{
+    put_walk(d, offset, length, places, out)
+}
+
+// Puts what the program answers to some input.
+fn put_answer(d: &[u8], asked: Command, out: &mut [u8]) -> usize
+    ensures { λ r. ⌜ Put (now (out .entry)) 0 (answerOf (now (d .entry)) asked) r (now (out .exit)) ⌝ }
+{
+    if 65536 < d.len() {
+        let long = Refusal {
+            number: 24,
+            second: 0,
+        };
+        return refused_line(long, out, 0);
+    }
+    match asked {
+        Command::Report => put_report(d, out),
+        Command::Map(offset, length) => put_map(d, offset, length, out),
+        Command::Walk(offset, length, places) => put_walk(d, offset, length, places, out),
+        Command::Usage => 0,
+    }
+}
+
+// What the program answers to some input.
+pub fn answer(d: &[u8], asked: Command, out: &mut [u8]) -> usize
+    ensures { λ r. ⌜ r ≡ after 0 (answerOf (now (d .entry)) asked) ⌝ }
+    ensures { λ _. ⌜ now (out .exit) ≡ pasted (now (out .entry)) 0 (answerOf (now (d .entry)) asked) ⌝ }
+{
+    put_answer(d, asked, out)
+}
