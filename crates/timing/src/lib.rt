@@ -1,6 +1,7 @@
 // What the benchmark calls: reading, probing, mapping and walking, each answered by one number.
 mod map;
 mod sum;
+mod walk;
 use descriptor::probe;
 use descriptor::read::parse_descriptor_file;
 use descriptor::record::Verdict;
@@ -9,6 +10,7 @@ use extents::table::Table;
 ghost use mathlib.Core.Path.{_≡_};
 ghost use Rattle.timing.specs.Read.{sizeOf, bitOf, tableIn};
 ghost use Rattle.timing.specs.Map.{mapSum, isAscending};
+ghost use Rattle.timing.specs.Walk.{walkSum};
 ghost use Rattle.descriptor.specs.Probe.{probeOf};
 
 // Read and build: the disk's size; 2^64-1 if either is refused.
@@ -55,4 +57,13 @@ pub extern "C" fn ours_map(descriptor: &[u8], ascending: u64, count: u64) -> u64
 {
     let t = table_of(descriptor);
     map::map_in(t, ascending, count)
+}
+
+// The sum over so many walks, window after window, with every piece that they wrote.
+#[no_mangle]
+pub extern "C" fn ours_walk(descriptor: &[u8], window: u64, count: u64) -> u64
+    ensures { λ r. ⌜ r ≡ walkSum count (tableIn (now (descriptor .entry))) window 0 0 ⌝ }
+{
+    let t = table_of(descriptor);
+    walk::walk_in(t, window, count)
 }
