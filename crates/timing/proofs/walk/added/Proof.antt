@@ -1,0 +1,9 @@
+use Rattle.timing.proofs.Tours.{adds}
+use Rattle.timing.proofs.walk.added.Statement.{statement}
+use Rattle.timing.proofs.walk.added.Tie as tie
+use Rattle.timing.proofs.walk.added.Reads as reads
+use Rattle.timing.proofs.walk.added.Lts as lts
+use Rattle.timing.proofs.walk.with_piece.Reads as with-piece-reads
+
+pub added-spec : {M : Type 1} → statement M
+added-spec = tie.close (tie.spec (λ c κs. search adds) (λ c. search adds) (λ c. search adds))

@@ -1,0 +1,4 @@
+pub mod Sum
+pub mod Read
+pub mod Map
+pub mod Walk

@@ -1,0 +1,58 @@
+-- The sum over many mappings of one table, each with its place and its run.
+use Prim.Native.Nat.{ℕ, zero, suc, _+_, _-_, _*_, _%_, _<_}
+use mathlib.Core.Bool.{Bool}
+use lib.Dec.{ltb}
+use Rattle.text.specs.Ranges.{pick}
+use Rattle.extents.specs.declared.table.Table.{Table}
+use Rattle.extents.specs.declared.table.ShallowMapping.{ShallowMapping}
+use Rattle.extents.specs.declared.table.ShallowMapping.the-variants.{Eof, Zero, Raw, Refused}
+use Rattle.extents.specs.declared.table.Mapping.{Mapping}
+use Rattle.extents.specs.Map.{mapOf}
+use Rattle.timing.specs.Sum.{foldOf}
+use Rattle.timing.specs.declared.map.Tally.{Tally}
+
+-- every mapping asks for so many bytes
+abbrev pub asked : ℕ
+asked = 65536
+
+-- offsets ascend if the number that asks for it is not 0
+abbrev pub isAscending : ℕ → Bool
+isAscending n = ltb 0 n
+
+-- the file offset, 0 for zeros, 1 for the end or a refusal
+abbrev pub placeOf : ShallowMapping → ℕ
+placeOf Eof = 1
+placeOf (Zero i) = 0
+placeOf (Raw i at w) = at
+placeOf (Refused n) = 1
+
+-- the sum with a mapping in it: its place, then its run
+abbrev pub mappingIn : ℕ → Mapping → ℕ
+mappingIn s g = foldOf (foldOf s (placeOf (g .mapping))) (g .run)
+
+-- the offset after an offset, below 2^31: 4,096 further on, or drawn
+abbrev pub nextOf : Bool → ℕ → ℕ
+nextOf ascending o = pick ascending ((o + 4096) % 2147483648) ((o * 1103515245 + 12345) % 2147483648)
+
+-- n mappings from an offset on, added to a sum
+unfoldable pub mapSum : Bool → ℕ → Table → ℕ → ℕ → ℕ
+mapSum ascending zero t o s = s
+mapSum ascending (suc n) t o s = mapSum ascending n t (nextOf ascending o) (mappingIn s (mapOf t o asked))
+
+-- the loop's tally: after a mapping, before the first one, and with one more mapping at an offset below 2^31
+abbrev pub turnOf : Tally → Mapping → Tally
+turnOf k g =
+    record {
+      more = ltb 1 (k .left);
+      offset = nextOf (k .ascending) (k .offset);
+      asked = k .asked;
+      left = k .left - 1;
+      sum = mappingIn (k .sum) g;
+      ascending = k .ascending;
+    }
+
+abbrev pub firstOf : ℕ → ℕ → Tally
+firstOf ascending n = record { more = ltb 0 n; offset = 0; asked = asked; left = n; sum = 0; ascending = isAscending ascending }
+
+abbrev pub Steady : Tally → Type 0
+Steady k = (0 < k .left) × (k .offset < 2147483648)
