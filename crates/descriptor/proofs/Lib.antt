@@ -6,11 +6,3 @@ pub mod Lines
 pub mod Fillings
 pub mod Reading
 pub mod Probing
-pub mod Refusals
-pub mod Sayings
-pub mod Numbers
-pub mod Verdicts
-pub mod Places
-pub mod ExtentLines
-pub mod Versions
-pub mod Theorems

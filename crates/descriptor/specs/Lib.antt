@@ -6,4 +6,3 @@ pub mod Line
 pub mod Read
 pub mod Array
 pub mod Probe
-pub mod Statements

@@ -13,7 +13,6 @@ use Rattle.extents.specs.declared.table.Source.{Source}
 use Rattle.extents.specs.declared.table.Source.the-variants.{NoAccess as Locked, Zero as Zeros, Flat as File}
 use Rattle.extents.specs.declared.table.Row.{Row}
 use Rattle.extents.specs.declared.table.Table.{Table}
-use Rattle.extents.specs.declared.table.ShallowMapping.{ShallowMapping}
 use Rattle.extents.specs.declared.table.ShallowMapping.the-variants.{Eof, Zero, Raw, Refused}
 use Rattle.extents.specs.declared.table.Mapping.{Mapping}
 use Rattle.extents.specs.Build.{noRow}

@@ -1,5 +1,5 @@
 -- The place that the extents give to each byte of the disk: by the sums of their sizes alone, with no rows and no search.
-use Prim.Native.Nat.{ℕ, suc, _+_, _-_, _*_, _<_, _≤_, _^_}
+use Prim.Native.Nat.{ℕ, suc, _+_, _-_, _*_, _≤_, _^_}
 use mathlib.Core.List.{List, [], _∷_}
 use mathlib.Core.Bool.{Bool}
 use lib.Dec.{ltb}

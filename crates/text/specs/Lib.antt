@@ -7,4 +7,3 @@ pub mod Find
 pub mod Lines
 pub mod Number
 pub mod Sector
-pub mod Unicode

@@ -1,10 +1,10 @@
 -- Facts on the adding of a list's pieces and on the loop of walks. The adding takes the pieces off the front of those that are left; a walk writes its pieces to the front of the list, so that the adding of as many as it wrote adds just them.
 -- Assumes nothing.
-use Prim.Native.Nat.{ℕ, zero, suc, _+_, _-_, _%_, _^_, _<_, _≤_}
+use Prim.Native.Nat.{ℕ, suc, _+_, _-_, _%_, _^_, _<_, _≤_}
 use native.Mathlib.Omega.{arith}
 use mathlib.Core.Path.{_≡_, refl, sym, _∙_, ap}
-use mathlib.Core.Bool.{Bool, true, false}
-use mathlib.Core.List.{List, [], _∷_, _++_}
+use mathlib.Core.Bool.{true, false}
+use mathlib.Core.List.{List, [], _∷_}
 use lib.Dec.{ltb}
 use lib.ListN.{length, take, drop, getD, replicate, length-append, length-replicate}
 use lib.Seq.{drop-cons, take-append-seam}
@@ -13,7 +13,7 @@ use borrow.Author.Tests.{ltb-true, ltb-false}
 use Rattle.descriptor.specs.Record.{most}
 use Rattle.extents.specs.declared.table.Table.{Table}
 use Rattle.extents.specs.declared.table.Piece.{Piece}
-use Rattle.extents.specs.Walk.{Walk, walkOf, walked, listed}
+use Rattle.extents.specs.Walk.{Walk, walkOf, listed}
 use Rattle.extents.specs.Stepping.{noPiece}
 use Rattle.extents.specs.Listing.{noPieces}
 use Rattle.timing.specs.declared.walk.Adding.{Adding}

@@ -12,7 +12,7 @@ use Rattle.extents.specs.declared.table.Mapping.{Mapping}
 use Rattle.extents.specs.Map.{mapOf}
 use Rattle.timing.specs.declared.map.Tally.{Tally}
 use Rattle.timing.specs.Sum.{foldOf}
-use Rattle.timing.specs.Map.{asked, isAscending, placeOf, mappingIn, nextOf, turnOf, firstOf, Steady, mapSum}
+use Rattle.timing.specs.Map.{asked, placeOf, mappingIn, nextOf, turnOf, firstOf, Steady, mapSum}
 
 -- the sum, three times by adding, and a value more
 pub fold-is : (s v : ℕ) {twice thrice r : ℕ} → twice ≡ (s + s) % 2 ^ 64 → thrice ≡ (twice + s) % 2 ^ 64 → r ≡ (thrice + v) % 2 ^ 64 → r ≡ foldOf s v

@@ -15,19 +15,19 @@ use Rattle.text.specs.Find.{begins}
 use Rattle.text.specs.Lines.{linesOf}
 use Rattle.text.specs.Text.{textAt, sound}
 use Rattle.text.proofs.Flat.{by-test}
 use Rattle.descriptor.specs.Record.{most, noExtent, noDesc, filled, recordOf, counted, refusal}
 use Rattle.descriptor.specs.Line.{lineOf}
 use Rattle.descriptor.specs.Read.{leastBytes, mostBytes, sparse, answer, sizesFrom, checked, readLines, readOf}
-use Rattle.descriptor.specs.Statements.{ByLine, placeAfter, sayings, sayingsOf, extentsIn, AllSound, RefusedWith, FirstRefused}
+use Rattle.theorems.specs.Statements.{ByLine, placeAfter, sayings, sayingsOf, extentsIn, AllSound, RefusedWith, FirstRefused}
 use Rattle.descriptor.specs.declared.line.Said.{Said}
 use Rattle.descriptor.specs.declared.line.Said.the-variants.{Nothing, Extent, Set, Refused}
 use Rattle.descriptor.specs.declared.record.Verdict.{Verdict}
 use Rattle.descriptor.specs.declared.record.Verdict.the-variants.{Sound, Refused as Stopped}
 use Rattle.descriptor.specs.declared.record.VmdkDesc.{VmdkDesc}
 use Rattle.descriptor.specs.declared.record.VmdkParsedExtent.{VmdkParsedExtent}
 use Rattle.descriptor.specs.declared.read.Read.{Read}
-use Rattle.descriptor.proofs.Numbers.{four}
-use Rattle.descriptor.proofs.Sayings.{From, setAll, Stops, never, stopped, stops, all-sound, after-all}
+use Rattle.theorems.proofs.RefusalNumbers.{four}
+use Rattle.theorems.proofs.Sayings.{From, setAll, Stops, never, stopped, stops, all-sound, after-all}
 
 -- a descriptor in range that is no sparse file is read by its lines
 pub by-line : (t : List ℕ) → ByLine t → readOf t ≡ readLines 1 0 noDesc [] (linesOf t)

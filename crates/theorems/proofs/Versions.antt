@@ -15,7 +15,7 @@ use Rattle.text.specs.Blank.{blank}
 use Rattle.text.specs.Find.{findAt, same, begins}
 use Rattle.text.specs.Lines.{count, linesOf}
 use Rattle.text.specs.Text.{trimOf, trimmed}
-use Rattle.text.specs.Unicode.{scalars, encodeAll}
+use Rattle.theorems.specs.Unicode.{scalars, encodeAll}
 use Rattle.text.specs.Number.{numberOf}
 use Rattle.text.specs.declared.words.Trimmed.{Trimmed}
 use Rattle.text.specs.declared.words.Trimmed.the-variants.{Range, Wrong}
@@ -24,34 +24,34 @@ use Rattle.text.specs.declared.number.Num.{Num}
 use Rattle.text.specs.declared.number.Num.the-variants.{Value, Bad}
 use Rattle.text.proofs.Flat.{by-test, pick-all}
 use Rattle.text.proofs.Finds.{same-is}
 use Rattle.descriptor.specs.Record.{noDesc, refusal}
 use Rattle.descriptor.specs.Key.{ascii, keyOf, geometryKey}
 use Rattle.descriptor.specs.Extent.{part, noAccessLine, extentLine}
 use Rattle.descriptor.specs.Line.{versionLimit, versionBy, versionOf, geometryOf, geometryBy, geometryLine, valueOf, keyLine, accessWord, accessLine, firstBlank, skipped, textLine, lineOf}
 use Rattle.descriptor.specs.Read.{leastBytes, mostBytes, setOf, sizesFrom, checked, readOf}
 use Rattle.descriptor.specs.Probe.{verdictOf, probeKey, probeLine, firstAnswer, probeLines, probeOf}
-use Rattle.descriptor.specs.Statements.{ByLine, sayings, sayingsOf, extentsIn, refuses, AllSound, firstVersion, versionAfter, lastVersion}
+use Rattle.theorems.specs.Statements.{ByLine, sayings, sayingsOf, extentsIn, refuses, AllSound, firstVersion, versionAfter, lastVersion}
 use Rattle.descriptor.specs.declared.key.Key.{Key}
 use Rattle.descriptor.specs.declared.key.Key.the-variants.{Version, Cid, ParentCid, CreateType, ParentFileNameHint, Geometry as Geometry·Key, Ddb, Unknown}
 use Rattle.descriptor.specs.declared.key.Geometry.{Geometry}
 use Rattle.descriptor.specs.declared.key.Geometry.the-variants.{Sectors, Heads, Cylinders}
 use Rattle.descriptor.specs.declared.line.Setting.the-variants.{Version as Is·Version, Cid as Is·Cid, ParentCid as Is·ParentCid, CreateType as Is·CreateType, Sectors as Is·Sectors, Heads as Is·Heads, Cylinders as Is·Cylinders}
 use Rattle.descriptor.specs.declared.line.Said.{Said}
 use Rattle.descriptor.specs.declared.line.Said.the-variants.{Nothing, Extent, Set, Refused}
 use Rattle.descriptor.specs.declared.line.AccessWord.{AccessWord}
 use Rattle.descriptor.specs.declared.line.AccessWord.the-variants.{NoAccess, RdOnly, RW, Other}
 use Rattle.descriptor.specs.declared.record.VmdkAccessType.the-variants.{RdOnly as ReadOnly, RW as ReadWrite}
 use Rattle.descriptor.specs.declared.probe.Probed.{Probed}
 use Rattle.descriptor.specs.declared.probe.Probed.the-variants.{Pass, Answer}
 use Rattle.descriptor.specs.declared.record.Verdict.the-variants.{Sound}
 use Rattle.descriptor.specs.declared.record.VmdkDesc.{VmdkDesc}
 use Rattle.descriptor.specs.declared.record.VmdkParsedExtent.{VmdkParsedExtent}
 use Rattle.descriptor.specs.declared.read.Read.{Read}
-use Rattle.descriptor.proofs.Numbers.{OfExtent, extent-locked-line, extent-line}
-use Rattle.text.proofs.Trimming.{Trimming, trim-front, trim-back, first-byte, encode-append, encode-cut, scalars-split, cut-at, blanks-free, count-append, find-none, find-behind}
-use Rattle.descriptor.proofs.Sayings.{From, from-sizes, from-answer, setAll}
-use Rattle.descriptor.proofs.Verdicts.{late, lines-sound, lines-checked, accepted-lines, checked-sound}
-use Rattle.descriptor.proofs.ExtentLines.{range-is, range-sound}
+use Rattle.theorems.proofs.RefusalNumbers.{OfExtent, extent-locked-line, extent-line}
+use Rattle.theorems.proofs.Trimming.{Trimming, trim-front, trim-back, first-byte, encode-append, encode-cut, scalars-split, cut-at, blanks-free, count-append, find-none, find-behind}
+use Rattle.theorems.proofs.Sayings.{From, from-sizes, from-answer, setAll}
+use Rattle.theorems.proofs.Verdicts.{late, lines-sound, lines-checked, accepted-lines, checked-sound}
+use Rattle.theorems.proofs.ExtentLines.{range-is, range-sound}
 
 -- ---- what says no version
 abbrev NoVersion : Said → Type 0

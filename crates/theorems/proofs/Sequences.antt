@@ -7,14 +7,14 @@ use mathlib.Core.Bool.{true, false}
 use mathlib.Core.Path.{_≡_, refl, sym, ap, subst, _∙_}
 use lib.ListN.{length, drop}
 use lib.Seq.{drop-nil, drop-append-seam}
 use Rattle.text.specs.Utf8.{charOf}
 use Rattle.text.specs.Text.{Text, done, char, put, textFrom, textAt, sound, codes}
-use Rattle.text.specs.Unicode.{scalar, encode, scalars, encodeAll}
+use Rattle.theorems.specs.Unicode.{scalar, encode, scalars, encodeAll}
 use Rattle.text.specs.declared.utf8.Char.{Char}
 use Rattle.text.specs.declared.utf8.Char.the-variants.{Scalar, Bad, End}
 use Rattle.text.proofs.Flat.{by-test}
 use Rattle.text.proofs.Texts.{Fit, fit, after}
-use Rattle.text.proofs.Encodings.{read-encoding, encoding-read, begins-split}
+use Rattle.theorems.proofs.Encodings.{read-encoding, encoding-read, begins-split}
 
 -- if all of x is sound, its code points are scalar values, and the bytes l their encodings
 abbrev Cut : Text → List ℕ → Type 0

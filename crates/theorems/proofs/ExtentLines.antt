@@ -14,7 +14,7 @@ use Rattle.text.specs.Blank.{blank}
 use Rattle.text.specs.Find.{findFrom, findAt, same}
 use Rattle.text.specs.Lines.{count}
 use Rattle.text.specs.Text.{textAt, sound, trimOf, trimmed, wordOf, wordCodes}
-use Rattle.text.specs.Unicode.{scalars, encodeAll}
+use Rattle.theorems.specs.Unicode.{scalars, encodeAll}
 use Rattle.text.specs.Sector.{sectorsOf}
 use Rattle.text.specs.declared.words.Trimmed.{Trimmed}
 use Rattle.text.specs.declared.words.Trimmed.the-variants.{Range, Wrong}
@@ -28,30 +28,30 @@ use Rattle.text.proofs.Flat.{by-test}
 use Rattle.text.proofs.Trims.{trim-wrong}
 use Rattle.text.proofs.Finds.{same-is}
 use Rattle.text.proofs.Bounds.{trim-within}
-use Rattle.text.proofs.Spellings.{word-none-codes, word-some-codes}
+use Rattle.theorems.proofs.Spellings.{word-none-codes, word-some-codes}
 use Rattle.descriptor.specs.Key.{ascii}
 use Rattle.descriptor.specs.Kept.{keptOf}
 use Rattle.descriptor.specs.Extent.{part, countedWord, secondWord, secondOf, thirdWord, thirdOf, threeWords, fileNameOf, startWord, fileStartOf, flatFrom, flatBy, flatLine, noAccessBy, noAccessLine, byThird, bySecond, extentLine}
 use Rattle.descriptor.specs.Line.{keyLine, accessWord, accessLine, firstBlank, skipped, textLine, trimmedLine, lineOf}
-use Rattle.descriptor.specs.Statements.{NextWord, Quotes, textIn, FileIn, accessText, ExtentIn}
+use Rattle.theorems.specs.Statements.{NextWord, Quotes, textIn, FileIn, accessText, ExtentIn}
 use Rattle.descriptor.specs.declared.extent.Second.{Second}
 use Rattle.descriptor.specs.declared.extent.Second.the-variants.{Count, Bad}
 use Rattle.descriptor.specs.declared.extent.Third.{Third}
 use Rattle.descriptor.specs.declared.extent.Third.the-variants.{Missing, Zero, Flat, Unsupported}
 use Rattle.descriptor.specs.declared.extent.FileName.{FileName}
 use Rattle.descriptor.specs.declared.extent.FileName.the-variants.{Name, Refused as NameRefused}
 use Rattle.descriptor.specs.declared.line.Said.{Said}
 use Rattle.descriptor.specs.declared.line.Said.the-variants.{Nothing, Extent, Set, Refused}
 use Rattle.descriptor.specs.declared.line.AccessWord.{AccessWord}
 use Rattle.descriptor.specs.declared.line.AccessWord.the-variants.{NoAccess, RdOnly, RW, Other}
 use Rattle.descriptor.specs.declared.record.Text.{Text}
 use Rattle.descriptor.specs.declared.record.VmdkAccessType.{VmdkAccessType}
 use Rattle.descriptor.specs.declared.record.VmdkAccessType.the-variants.{RdOnly as ReadOnly, RW as ReadWrite}
 use Rattle.descriptor.specs.declared.record.VmdkParsedExtent.{VmdkParsedExtent}
 use Rattle.descriptor.specs.declared.record.VmdkParsedStorage.the-variants.{Flat as File}
-use Rattle.descriptor.proofs.Numbers.{OfKey, key-keys, four}
-use Rattle.text.proofs.Trimming.{Trimming, trim-parts, encode-append, encode-cut, scalars-split, cut-at, blanks-free, count-append, find-none, find-behind}
-use Rattle.descriptor.proofs.Places.{Lies, part-lies, kept-is}
+use Rattle.theorems.proofs.RefusalNumbers.{OfKey, key-keys, four}
+use Rattle.theorems.proofs.Trimming.{Trimming, trim-parts, encode-append, encode-cut, scalars-split, cut-at, blanks-free, count-append, find-none, find-behind}
+use Rattle.theorems.proofs.LinePlaces.{Lies, part-lies, kept-is}
 
 -- ---- the words
 count-is : (v : List ℕ) (b : ℕ) (c : SectorCount) → sectorsOf v ≡ c → {s : Sectors} {e : ℕ} → countedWord c b ≡ Count s e → (b ≡ e) × (sectorsOf v ≡ Sectors·Count s)

@@ -13,19 +13,19 @@ use Rattle.text.specs.Sector.{bytesOf, largest}
 use Rattle.text.specs.declared.sector.ByteCount.{ByteCount}
 use Rattle.text.specs.declared.sector.ByteCount.the-variants.{Count, TooLarge}
 use Rattle.text.proofs.Flat.{by-test, pick-all}
 use Rattle.descriptor.specs.Record.{most, refusal}
 use Rattle.descriptor.specs.Line.{lineOf}
 use Rattle.descriptor.specs.Read.{answer, setOf, summed, sizesFrom, checked, byLine, readLines}
-use Rattle.descriptor.specs.Statements.{placeAfter, sayings, extentsIn, refuses, RefusedWith}
+use Rattle.theorems.specs.Statements.{placeAfter, sayings, extentsIn, refuses, RefusedWith}
 use Rattle.descriptor.specs.declared.line.Said.{Said}
 use Rattle.descriptor.specs.declared.line.Said.the-variants.{Nothing, Extent, Set, Refused}
 use Rattle.descriptor.specs.declared.record.Refusal.{Refusal}
 use Rattle.descriptor.specs.declared.record.Verdict.{Verdict}
 use Rattle.descriptor.specs.declared.record.Verdict.the-variants.{Sound, Refused as Stopped}
 use Rattle.descriptor.specs.declared.record.VmdkDesc.{VmdkDesc}
 use Rattle.descriptor.specs.declared.record.VmdkParsedExtent.{VmdkParsedExtent}
 use Rattle.descriptor.specs.declared.read.Read.{Read}
-use Rattle.descriptor.proofs.Numbers.{line-number}
+use Rattle.theorems.proofs.RefusalNumbers.{line-number}
 
 -- ---- after the lines
 -- what is refused is refused with a number from m on

@@ -15,9 +15,9 @@ use Rattle.text.specs.declared.words.Trimmed.the-variants.{Range, Wrong}
 use Rattle.text.proofs.Flat.{by-test}
 use Rattle.text.proofs.Bounds.{trim-within}
 use Rattle.text.proofs.Lines.{lines-join}
 use Rattle.descriptor.specs.Kept.{keptAt, keptOf}
 use Rattle.descriptor.specs.Extent.{part}
-use Rattle.descriptor.specs.Statements.{placeAfter, LineAt, textIn}
+use Rattle.theorems.specs.Statements.{placeAfter, LineAt, textIn}
 
 -- the bytes l stand in d at the place p
 abbrev pub Lies : List ℕ → ℕ → List ℕ → Type 0

@@ -9,23 +9,23 @@ use lib.ListN.{length}
 use Rattle.text.specs.Ranges.{within}
 use Rattle.text.specs.Text.{textAt, sound, trimmed}
 use Rattle.text.specs.declared.sector.Sectors.{Sectors}
 use Rattle.descriptor.specs.Record.{most, noRecord, counted, refusal}
 use Rattle.descriptor.specs.Line.{lineOf}
 use Rattle.descriptor.specs.Read.{readOf}
 use Rattle.descriptor.specs.Probe.{probeOf}
-use Rattle.descriptor.specs.Statements.{ByLine, sayingsOf, extentsIn, AllSound, firstVersion, lastVersion, LineAt, FirstRefused, Quotes, textIn, ExtentIn}
+use Rattle.theorems.specs.Statements.{ByLine, sayingsOf, extentsIn, AllSound, firstVersion, lastVersion, LineAt, FirstRefused, Quotes, textIn, ExtentIn}
 use Rattle.descriptor.specs.declared.line.Said.the-variants.{Extent}
 use Rattle.descriptor.specs.declared.record.Text.{Text}
 use Rattle.descriptor.specs.declared.record.Refusal.{Refusal}
 use Rattle.descriptor.specs.declared.record.Verdict.the-variants.{Sound, Refused}
 use Rattle.descriptor.specs.declared.record.VmdkAccessType.{VmdkAccessType}
 use Rattle.descriptor.specs.declared.record.VmdkParsedStorage.the-variants.{Flat}
 use Rattle.descriptor.specs.declared.record.VmdkParsedExtent.{VmdkParsedExtent}
-use Rattle.descriptor.proofs.Refusals.{emptied}
-use Rattle.descriptor.proofs.Verdicts.{line-refused, line-no-text, accepted-lines, accepted-extents}
-use Rattle.descriptor.proofs.Versions.{probe-accepted, last-accepted, probe-refused}
-use Rattle.descriptor.proofs.Places.{lies}
-use Rattle.descriptor.proofs.ExtentLines.{extent-says, file-named}
+use Rattle.theorems.proofs.Refusals.{emptied}
+use Rattle.theorems.proofs.Verdicts.{line-refused, line-no-text, accepted-lines, accepted-extents}
+use Rattle.theorems.proofs.Versions.{probe-accepted, last-accepted, probe-refused}
+use Rattle.theorems.proofs.LinePlaces.{lies}
+use Rattle.theorems.proofs.ExtentLines.{extent-says, file-named}
 
 -- ---- refusals
 -- A refused read answers the empty record.
