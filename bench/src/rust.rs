@@ -1,7 +1,7 @@
 //! The Rust: imago's own reading, building, probing and mapping, with the opening of a file replaced
 //! by a constant and the reading of a file by sharing its bytes.
 
-use crate::sums::{fold, next, ASKED, FIRST, STEP};
+use crate::sums::{fold, next, ASKED, SIZE};
 use oracle::format::drivers::FormatDriverInstance;
 use oracle::format::gate::ImplicitOpenGate;
 use oracle::io_buffers::IoBufferMut;
@@ -76,16 +76,15 @@ pub fn probe(descriptor: &Reel) -> u64 {
 /// Map so many offsets, drawn or ascending.
 pub fn map(descriptor: &Reel, ascending: bool, count: u64) -> u64 {
     let vmdk = open(descriptor).expect("a sound table");
-    let mask = vmdk.size() - 1;
-    let (mut state, mut sum) = (if ascending { 0 } else { FIRST }, 0);
+    let (mut offset, mut sum) = (0, 0);
     for _ in 0..count {
-        state = if ascending { (state + STEP) & mask } else { next(state) };
-        let (place, run) = match vmdk.get_mapping(state & mask, ASKED) {
+        let (place, run) = match vmdk.get_mapping(offset, ASKED) {
             Ok((ShallowMapping::Raw { offset, .. }, run)) => (offset, run),
             Ok((ShallowMapping::Zero { .. }, run)) => (0, run),
             Ok((ShallowMapping::Eof {}, _)) | Err(_) => (1, 0),
         };
         sum = fold(fold(sum, place), run);
+        offset = next(ascending, offset);
     }
     sum
 }
@@ -117,7 +116,7 @@ pub fn walk(descriptor: &Reel, window: u64, count: u64) -> u64 {
             sum = fold(fold(fold(sum, piece.start), piece.run), piece.place);
             std::hint::black_box((piece.file, piece.writable));
         }
-        position = if position + window < vmdk.size() { position + window } else { 0 };
+        position = position.wrapping_add(window) % SIZE;
     }
     sum
 }

@@ -1,21 +1,17 @@
-//! What both sides do beside the work that is timed: they draw offsets, and fold their answers into
-//! one number, so that nothing is left out and the two can be compared. Shifts, `^`, `|` and `&` only.
+//! What both sides do beside the work that is timed: they choose offsets, and fold their answers into
+//! one number, so that nothing is left out and the two can be compared.
 
-/// The first state of the drawing of offsets.
-pub const FIRST: u64 = 0x9e37_79b9_7f4a_7c15;
-
-/// The distance of ascending offsets, and the length that every mapping asks for.
+/// The tables' size, and the distance of ascending offsets, and the length that every mapping asks for.
+pub const SIZE: u64 = 1 << 31;
 pub const STEP: u64 = 4096;
 pub const ASKED: u64 = 65_536;
 
-/// The next state (xorshift64); its low bits are the offset.
-pub fn next(state: u64) -> u64 {
-    let state = state ^ (state << 13);
-    let state = state ^ (state >> 7);
-    state ^ (state << 17)
+/// The offset after an offset: further on, or drawn.
+pub fn next(ascending: bool, offset: u64) -> u64 {
+    if ascending { (offset + STEP) % SIZE } else { (offset * 1_103_515_245 + 12_345) % SIZE }
 }
 
-/// The sum with one more value in it.
+/// The sum with one more value in it: three times the sum, and the value.
 pub fn fold(sum: u64, value: u64) -> u64 {
-    ((sum << 1) | (sum >> 63)) ^ value
+    sum.wrapping_mul(3).wrapping_add(value)
 }

@@ -155,6 +155,11 @@ pub written-fits : (w : Walk) (ys : List Piece) → length (w .pieces) ≤ lengt
 unfolding listed
 written-fits w ys = omega (arith, length-append (w .pieces) (drop (length (w .pieces)) ys))
 
+-- adding as many pieces as a walk wrote adds just them
+pub tour-adds : (t : Table) (k : Tour) (ys : List Piece) → length ys ≡ 128
+    → piecesIn (k .sum) (take (length (walkOf t (length ys) (k .at) (k .window) .pieces)) (listed (walkOf t (length ys) (k .at) (k .window)) ys)) ≡ piecesIn (k .sum) (walkOf t most (k .at) (k .window) .pieces)
+tour-adds t k ys long = ap (piecesIn (k .sum)) (written (walkOf t (length ys) (k .at) (k .window)) ys) ∙ ap (λ (n : ℕ). piecesIn (k .sum) (walkOf t n (k .at) (k .window) .pieces)) long
+
 pub walk-built : (d : List ℕ) (window n : ℕ) {t : Table} {r : ℕ} → t ≡ tableIn d → r ≡ walkSum n t window 0 0 → r ≡ walkSum n (tableIn d) window 0 0
 walk-built d window n e f = f ∙ ap (λ (z : Table). walkSum n z window 0 0) e
 

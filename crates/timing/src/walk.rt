@@ -71,7 +71,7 @@ fn added_sum(k: Adding) -> u64
 }
 
 // The sum with a list's first pieces in it. By hand.
-fn add_pieces(list: &mut [Piece], count: usize, sum: u64) -> u64
+pub fn add_pieces(list: &mut [Piece], count: usize, sum: u64) -> u64
     requires { ⌜ count ≤ length (now list) ⌝ }
     ensures { λ r. ⌜ (r ≡ piecesIn sum (take count (now (list .entry)))) × (now (list .exit) ≡ now (list .entry)) ⌝ }
 {

@@ -1,3 +1,6 @@
+-- `timing::ours_walk` meets its contract. The table is made once.
+-- The sum is then that of its walks.
+-- Assumes nothing.
 use Rattle.timing.proofs.Tours.{walks}
 use Rattle.timing.proofs.ours_walk.Statement.{statement}
 use Rattle.timing.proofs.ours_walk.Tie as tie

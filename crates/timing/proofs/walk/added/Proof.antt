@@ -1,3 +1,6 @@
+-- `timing::walk::added` meets its contract. The piece is folded in, and the next number is no larger than the count.
+-- So it does not wrap.
+-- Assumes nothing.
 use Rattle.timing.proofs.Tours.{adds}
 use Rattle.timing.proofs.walk.added.Statement.{statement}
 use Rattle.timing.proofs.walk.added.Tie as tie

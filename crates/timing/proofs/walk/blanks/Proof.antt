@@ -1,3 +1,6 @@
+-- `timing::walk::blanks` meets its contract. The piece is the blank one, and the list repeats it.
+-- Nothing else is there to show.
+-- Assumes nothing.
 use Rattle.timing.proofs.Tours.{blanks}
 use Rattle.timing.proofs.walk.blanks.Statement.{statement}
 use Rattle.timing.proofs.walk.blanks.Tie as tie

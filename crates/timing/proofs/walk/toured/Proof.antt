@@ -1,3 +1,6 @@
+-- `timing::walk::toured` meets its contract. What wraps at 2^64 does not matter below 2^31.
+-- There is one walk left, so that one less is no wrap.
+-- Assumes nothing.
 use Rattle.timing.proofs.Tours.{tours}
 use Rattle.timing.proofs.walk.toured.Statement.{statement}
 use Rattle.timing.proofs.walk.toured.Tie as tie

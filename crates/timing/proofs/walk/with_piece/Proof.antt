@@ -1,3 +1,6 @@
+-- `timing::walk::with_piece` meets its contract. The three numbers are folded in one after the other.
+-- Each fold says what it answers.
+-- Assumes nothing.
 use Rattle.timing.proofs.Tours.{pieces}
 use Rattle.timing.proofs.walk.with_piece.Statement.{statement}
 use Rattle.timing.proofs.walk.with_piece.Tie as tie
