@@ -7,7 +7,6 @@ use descriptor::record::VmdkDesc;
 use extents::by_value::Listing;
 use extents::table::Piece;
 use extents::table::Table;
-
 ghost use Prim.Native.Nat.{_<_};
 
 // A byte as a number.
@@ -118,7 +117,15 @@ fn pieces(to: &mut [u8], at: usize, d: &[u8], t: Table, l: Listing) -> usize {
 }
 
 // A query for a walk.
-fn walk(to: &mut [u8], at: usize, d: &[u8], t: Table, places: usize, offset: u64, length: u64) -> usize {
+fn walk(
+    to: &mut [u8],
+    at: usize,
+    d: &[u8],
+    t: Table,
+    places: usize,
+    offset: u64,
+    length: u64,
+) -> usize {
     let l = extents::by_value::listed(t, places, offset, length);
     let p = pieces(to, at, d, t, l);
     let w = l.walked;

@@ -4,7 +4,6 @@ mod line;
 mod out;
 
 use libc::STDIN_FILENO;
-
 ghost use mathlib.Core.Path.{_≡_};
 ghost use lib.ListN.{length};
 
