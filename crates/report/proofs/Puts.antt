@@ -6,13 +6,13 @@ use native.Mathlib.Numerals.{add-one}
 use mathlib.Core.List.{List, [], _∷_, _++_}
 use mathlib.Core.Path.{_≡_, refl, sym, ap, _∙_}
 use lib.ListN.{length, getD, take, drop, set, length-append}
-use lib.Seq.{take-suc, take-all}
+use lib.Seq.{take-suc, take-all, take-append-seam}
 use lib.Dec.{leb}
 use borrow.Author.Needs.{needs}
 use borrow.Author.Tests.{leb-true, leb-false}
 use Rattle.text.specs.Sector.{largest}
 use Rattle.text.proofs.Flat.{by-test}
-use Rattle.report.specs.Put.{pasted, Put}
+use Rattle.report.specs.Put.{pasted, after, Put}
 
 -- ---- a buffer with a text at a place
 pasted-none : (o : List ℕ) (at : ℕ) → pasted o at [] ≡ o
@@ -63,6 +63,14 @@ pasted-whole (b ∷ r) zero [] h = refl
 pasted-whole (b ∷ r) zero (c ∷ x) h =
     let e : zero + suc (length x) ≡ suc (zero + length x) = omega arith in
     rw (e, pasted-whole r zero x (omega arith))
+
+-- a text that fits stands at the buffer's start
+pub pasted-start : (o x : List ℕ) → length x ≤ length o → take (length x) (pasted o 0 x) ≡ x
+pasted-start o x h = rw (pasted-whole o 0 x (omega arith)) (take-append-seam x (drop (0 + length x) o))
+
+-- a place below 2^64-1 is the one after the whole text
+pub after-whole : (x : List ℕ) (r : ℕ) → r ≡ after 0 x → r < largest → r ≡ length x
+after-whole x r e h = omega arith
 
 -- no buffer is longer than 2^64-1, so a place past that is as good as one there
 pasted-clip : (o : List ℕ) (n : ℕ) (y : List ℕ) → length o ≤ largest → pasted o (min n largest) y ≡ pasted o n y

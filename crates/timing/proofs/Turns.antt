@@ -1,6 +1,6 @@
 -- Facts on the tally that the loop of mappings carries: it says that there is one more mapping exactly where one is left, and its offset stays below 2^31. A turn takes one mapping off the front of those that are left.
 -- Assumes nothing.
-use Prim.Native.Nat.{ℕ, zero, suc, _+_, _-_, _*_, _%_, _^_, _<_, _≤_}
+use Prim.Native.Nat.{ℕ, zero, suc, _+_, _-_, _*_, _%_, _<_, _≤_}
 use native.Mathlib.Omega.{arith}
 use mathlib.Core.Path.{_≡_, refl, sym, _∙_, ap}
 use mathlib.Core.Bool.{Bool, true, false}
@@ -13,12 +13,6 @@ use Rattle.extents.specs.Map.{mapOf}
 use Rattle.timing.specs.declared.map.Tally.{Tally}
 use Rattle.timing.specs.Sum.{foldOf}
 use Rattle.timing.specs.Map.{asked, placeOf, mappingIn, nextOf, turnOf, firstOf, Steady, mapSum}
-
--- the sum, three times by adding, and a value more
-pub fold-is : (s v : ℕ) {twice thrice r : ℕ} → twice ≡ (s + s) % 2 ^ 64 → thrice ≡ (twice + s) % 2 ^ 64 → r ≡ (thrice + v) % 2 ^ 64 → r ≡ foldOf s v
-fold-is s v a b c = omega (arith, a, b, c)
-
-pub ruleset folds = (fold-is, needs)
 
 pub record Going (k : Tally) : Type 0 where
   pub says : k .more ≡ ltb 0 (k .left)

@@ -2,7 +2,6 @@
 mod map;
 mod sum;
 mod walk;
-
 use descriptor::probe;
 use descriptor::read::parse_descriptor_file;
 use descriptor::record::Verdict;

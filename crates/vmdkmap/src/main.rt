@@ -113,6 +113,7 @@ fn run(asked: Command) {
     respond(&input[..n], asked, &mut out);
 }
 
+// Tells the usage, or reads and answers.
 fn main() {
     let asked = asked();
     match asked {

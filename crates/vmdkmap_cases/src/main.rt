@@ -126,6 +126,7 @@ fn run_all(list: &[u8]) -> u64 {
     n
 }
 
+// Reads the list, runs its cases and counts them.
 fn main() {
     let mut space = io::large_buffer();
     let n = io::read_full(0, &mut space);

@@ -1,6 +1,6 @@
 -- `put_decimal` meets its contract. Ten and more are their tens, which the call of itself puts, and then the last digit; the measure is
 -- the number, which falls to its tens. Assumes nothing.
-use Prim.Native.Nat.{ℕ}
+use Prim.Native.Nat.{ℕ, _<_}
 use borrow.Fn.Kinds.{In}
 use borrow.Fn.PlainCycle.{Measures, is, falls, and}
 use Rattle.report.proofs.Decimals.{decimals}
