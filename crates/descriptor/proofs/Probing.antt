@@ -2,7 +2,7 @@
 -- Assumes nothing.
 use Prim.Native.Nat.{ℕ, _+_, _-_, _≤_, _<_}
 use native.Mathlib.Omega.{arith}
-use mathlib.Core.List.{List, []}
+use mathlib.Core.List.{List, [], _∷_}
 use mathlib.Core.Bool.{Bool, true, false}
 use mathlib.Core.Path.{_≡_, refl, sym, _∙_}
 use lib.ListN.{length, take, drop}
@@ -10,8 +10,8 @@ use lib.Dec.{leb, ltb}
 use borrow.Author.Needs.{needs}
 use borrow.Author.Tests.{le-leb, lt-ltb, le-ltb}
 use Rattle.text.specs.Ranges.{pick}
-use Rattle.text.specs.Text.{trimOf, trimmed}
-use Rattle.text.specs.Find.{findAt, lineEnd, same, begins}
+use Rattle.text.specs.Text.{textFrom, textAt, sound, dropBlanks, trimText, trimOf, trimmed}
+use Rattle.text.specs.Find.{findFrom, findAt, lineEnd, same, begins}
 use Rattle.text.specs.Lines.{linesAt}
 use Rattle.text.specs.Number.{numberOf}
 use Rattle.text.specs.declared.words.Trimmed.{Trimmed}
@@ -56,6 +56,11 @@ key-take i l h = take-count i l (omega arith)
 pub ruleset probeKeys = (key-take, key-other, key-version, needs)
 
 -- Rules of `probe_line`
+pub probe-empty : (l : List ℕ) → length l ≡ 0 → Pass ≡ probeLine l
+unfolding probeLine probeKey trimOf trimText textAt textFrom sound dropBlanks findAt findFrom
+probe-empty [] h = refl
+probe-empty (b ∷ r) h = absurd (omega arith)
+
 module _ (l : List ℕ) {r : Trimmed} (e : r ≡ trimOf l) where
   pub probe-bad : r ≡ Wrong → Answer false ≡ probeLine l
   unfolding probeLine
@@ -73,7 +78,7 @@ module _ (l : List ℕ) {r : Trimmed} (e : r ≡ trimOf l) where
 pub found-below : (b : ℕ) (t : List ℕ) (at : ℕ) {i : ℕ} {f : Place} → f ≡ findAt b t at → f ≡ Here i → i < length t
 found-below b t at e q = found-within b t at (sym e ∙ q) .1
 
-pub ruleset probedLines = (found-below, probe-bad, probe-none, probe-some, needs)
+pub ruleset probedLines = (found-below, probe-empty, probe-bad, probe-none, probe-some, needs)
 
 -- Rules of `probe_lines`
 pick-lines : (b : Bool) (t : List ℕ) (at : ℕ) → probeLines (pick b (linesAt t at) []) ≡ pick b (probeAt t at) false

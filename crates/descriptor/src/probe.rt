@@ -53,6 +53,9 @@ fn probe_key(l: &[u8], i: usize) -> Probed
 fn probe_line(l: &[u8]) -> Probed
     ensures { λ r. ⌜ r ≡ probeLine (now (l .entry)) ⌝ }
 {
+    if l.len() == 0 {
+        return Probed::Pass;
+    }
     let r = trim(l);
     match r {
         Trimmed::Wrong => Probed::Answer(false),

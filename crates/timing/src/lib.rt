@@ -2,6 +2,7 @@
 mod map;
 mod sum;
 mod walk;
+
 use descriptor::probe;
 use descriptor::read::parse_descriptor_file;
 use descriptor::record::Verdict;

@@ -35,7 +35,11 @@ fn next(ascending: bool, offset: u64) -> u64
     requires { ⌜ offset < 2147483648 ⌝ }
     ensures { λ r. ⌜ r ≡ nextOf ascending offset ⌝ }
 {
-    if ascending { (offset + 4096) % 2147483648 } else { (offset * 1103515245 + 12345) % 2147483648 }
+    if ascending {
+        (offset + 4096) % 2147483648
+    } else {
+        (offset * 1103515245 + 12345) % 2147483648
+    }
 }
 
 // After a mapping.

@@ -6,6 +6,7 @@ pub probe-line-spec : {M : Type 1} → statement M
 probe-line-spec =
     tie.close
     (tie.spec
+    (λ c. search probedLines)
     (λ c κs. search probedLines)
     (λ c. search probedLines)
     (λ c. search probedLines)
