@@ -35,6 +35,23 @@ pub fn descriptors() -> Vec<Input> {
     ]
 }
 
+/// Each kind of long descriptor in three lengths: reading is to cost as much for each byte of the longest as of the shortest.
+pub fn scaled() -> Vec<(String, Vec<u8>)> {
+    let lengths = [("64 KB", 65_536), ("512 KB", 524_288), ("2 MB", MOST)];
+    lengths.into_iter().flat_map(|(size, length)| kinds(size, length)).collect()
+}
+
+/// The kinds of long descriptors, so many bytes each.
+fn kinds(size: &str, length: usize) -> [(String, Vec<u8>); 4] {
+    let comment = "# a comment that a reel's descriptor might well hold, 64 bytes..\n";
+    [
+        (format!("{size} of comments"), filled(comment, length)),
+        (format!("{size} of empty lines"), filled("\n", length)),
+        (format!("one line of {size}"), filled("#", length)),
+        (format!("{size}, 128 extents and comments"), commented(length)),
+    ]
+}
+
 /// What the long inputs end with: probing, too, comes to `version` at the end only.
 const TAIL: &str = "\nversion=1\nCID=fffffffe\nRW 4192256 FLAT \"reel.vmdk\" 0\n";
 

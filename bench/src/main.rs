@@ -49,6 +49,9 @@ fn works() -> Vec<Work> {
             works.push(work(format!("{what}: {}", input.name), &input.bytes, doing));
         }
     }
+    for (name, bytes) in inputs::scaled() {
+        works.push(work(format!("scale: {name}"), &bytes, Doing::Read));
+    }
     for (what, doing) in [
         ("map: random offsets", Doing::Map { ascending: false }),
         ("map: ascending offsets", Doing::Map { ascending: true }),
