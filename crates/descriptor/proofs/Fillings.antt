@@ -7,7 +7,7 @@ use mathlib.Core.List.{List, [], _∷_, _++_, append-assoc}
 use mathlib.Core.Path.{_≡_, refl, ap, _∙_}
 use lib.ListN.{length, take, drop, set, replicate, length-take, length-append}
 use lib.Seq.{take-suc-set, set-split, drop-append-add}
-use Rattle.descriptor.specs.Record.{most, filled}
+use Rattle.lines.specs.Record.{most, filled}
 
 module _ {A : Type 0} (none : A) where
   drop-one : (k : ℕ) → drop 1 (replicate k none) ≡ replicate (k - 1) none

@@ -13,30 +13,31 @@ use mir.Syntax.{w64}
 use mir.Val.{Fits}
 use borrow.Author.Needs.{needs}
 use borrow.Author.Tests.{le-leb, lt-leb, leb-true, lt-ltb, le-ltb, ltb-true}
-use Rattle.text.specs.Ranges.{pick}
-use Rattle.text.specs.Sector.{bytesOf, largest, sectorSize}
-use Rattle.text.specs.declared.sector.Sectors.{Sectors}
-use Rattle.text.specs.declared.sector.Bytes.{Bytes}
-use Rattle.text.specs.declared.sector.ByteCount.{ByteCount}
-use Rattle.text.specs.declared.sector.ByteCount.the-variants.{Count, TooLarge}
-use Rattle.text.proofs.Flat.{by-test, within-in, within-below, within-above}
+use Rattle.base.specs.Ranges.{pick}
+use Rattle.numbers.specs.Sector.{bytesOf, largest, sectorSize}
+use Rattle.numbers.specs.declared.sector.Sectors.{Sectors}
+use Rattle.numbers.specs.declared.sector.Bytes.{Bytes}
+use Rattle.numbers.specs.declared.sector.ByteCount.{ByteCount}
+use Rattle.numbers.specs.declared.sector.ByteCount.the-variants.{Count, TooLarge}
+use Rattle.base.proofs.Flat.{by-test, within-in, within-below, within-above}
 use Rattle.text.specs.Lines.{linesAt}
 use Rattle.text.specs.Find.{lineEnd, begins}
 use Rattle.text.proofs.Lines.{line-within, line-step}
-use Rattle.descriptor.specs.Line.{lineOf}
-use Rattle.descriptor.specs.Record.{most, noExtent, noDesc, descOf, filled, refusal}
-use Rattle.descriptor.specs.Read.{leastBytes, mostBytes, sparse, refusedRead, setOf, sizesFrom, answer, checked, byLine, readLines, readOf}
+use Rattle.lines.specs.Line.{lineOf, saidAt}
+use Rattle.lines.proofs.Lines.{said-is}
+use Rattle.lines.specs.Record.{most, mostBytes, noExtent, noDesc, descOf, filled, refusal}
+use Rattle.descriptor.specs.Read.{leastBytes, sparse, refusedRead, setOf, sizesFrom, answer, checked, byLine, readLines, readOf}
 use Rattle.descriptor.specs.Array.{heldIn, Tidy, sizesIn, readIn}
-use Rattle.descriptor.specs.declared.line.Setting.{Setting}
-use Rattle.descriptor.specs.declared.line.Setting.the-variants.{Version, Cid, ParentCid, CreateType, Sectors as Is·Sectors, Heads, Cylinders}
-use Rattle.descriptor.specs.declared.line.Said.{Said}
-use Rattle.descriptor.specs.declared.line.Said.the-variants.{Nothing, Extent, Set, Refused}
-use Rattle.descriptor.specs.declared.record.Text.{Text}
-use Rattle.descriptor.specs.declared.record.Refusal.{Refusal}
-use Rattle.descriptor.specs.declared.record.Verdict.{Verdict}
-use Rattle.descriptor.specs.declared.record.Verdict.the-variants.{Sound, Refused as Stopped}
-use Rattle.descriptor.specs.declared.record.VmdkDesc.{VmdkDesc}
-use Rattle.descriptor.specs.declared.record.VmdkParsedExtent.{VmdkParsedExtent}
+use Rattle.lines.specs.declared.line.Setting.{Setting}
+use Rattle.lines.specs.declared.line.Setting.the-variants.{Version, Cid, ParentCid, CreateType, Sectors as Is·Sectors, Heads, Cylinders}
+use Rattle.lines.specs.declared.line.Said.{Said}
+use Rattle.lines.specs.declared.line.Said.the-variants.{Nothing, Extent, Set, Refused}
+use Rattle.lines.specs.declared.record.Text.{Text}
+use Rattle.lines.specs.declared.record.Refusal.{Refusal}
+use Rattle.lines.specs.declared.record.Verdict.{Verdict}
+use Rattle.lines.specs.declared.record.Verdict.the-variants.{Sound, Refused as Stopped}
+use Rattle.lines.specs.declared.record.VmdkDesc.{VmdkDesc}
+use Rattle.lines.specs.declared.record.VmdkParsedExtent.{VmdkParsedExtent}
 use Rattle.descriptor.specs.declared.read.Read.{Read}
 use Rattle.descriptor.proofs.Fillings.{set-filled}
 
@@ -227,7 +228,7 @@ module _ (t : List ℕ) {more : Bool} (at : ℕ) (m : more ≡ true) (b : more �
   pub line-end : e ≤ length t
   line-end = line-is t at (b m) q .1
 
-  pub line-room : length t ≤ 2097152 → at + length (take (e - at) (drop at t)) ≤ 2097152
+  line-room : length t ≤ 2097152 → at + length (take (e - at) (drop at t)) ≤ 2097152
   line-room h = omega (arith, line-is t at (b m) q, line-long t at (b m) q)
 
   pub place-fits : length t ≤ 2097152 → Fits w64 (e + 1)
@@ -246,10 +247,10 @@ module _ (t : List ℕ) {more : Bool} (at : ℕ) (m : more ≡ true) (b : more �
       (λ h. rw h (omega (arith, line-is t at (b m) q, ltb-true e (length t) h)))
       (λ h. rw h (omega arith)))
 
-  module _ {whole : Read} (line : ℕ) (d : VmdkDesc) (a : List VmdkParsedExtent) (n : ℕ) (i : whole ≡ leftOf t more at line d a n) {s : Said} (r : s ≡ lineOf at (take (e - at) (drop at t))) where
+  module _ {whole : Read} (line : ℕ) (d : VmdkDesc) (a : List VmdkParsedExtent) (n : ℕ) (i : whole ≡ leftOf t more at line d a n) {s : Said} (r : s ≡ saidAt at (take (e - at) (drop at t))) (small : length t ≤ 2097152) where
     step : whole ≡ byLine (line + 1) s d (heldIn a n) (λ d xs. readLines (suc (line + 1)) (e + 1) d xs (pick (ltb e (length t)) (linesAt t (e + 1)) []))
     unfolding leftOf
-    step = rw (i, m, lines-left t at (b m) q (line + 1) d (heldIn a n), r)
+    step = rw (i, m, lines-left t at (b m) q (line + 1) d (heldIn a n), r, said-is at (take (e - at) (drop at t)) (line-room small))
 
     next : (d′ : VmdkDesc) (a′ : List VmdkParsedExtent) (n′ : ℕ) (xs : List VmdkParsedExtent) → heldIn a′ n′ ≡ xs → readLines (suc (line + 1)) (e + 1) d′ xs (pick (ltb e (length t)) (linesAt t (e + 1)) []) ≡ leftOf t (ltb e (length t)) (e + 1) (line + 1) d′ a′ n′
     unfolding leftOf
@@ -282,7 +283,7 @@ pub read-end : {whole z : Read} (t : List ℕ) {more : Bool} (at line : ℕ) (d 
 unfolding leftOf
 read-end t at line d a n i m p = rw (i, m) p
 
-pub ruleset readings = (read-start, tidy-start, tidy-set, tidy-few, line-order, line-end, line-room, place-fits, line-fits, line-count, line-less, say-nothing, say-set, say-refused, say-full, say-extent, more-within, first-within, read-end, needs)
+pub ruleset readings = (read-start, tidy-start, tidy-set, tidy-few, line-order, line-end, place-fits, line-fits, line-count, line-less, say-nothing, say-set, say-refused, say-full, say-extent, more-within, first-within, read-end, needs)
 
 -- Rules of `parse_descriptor_file`
 module _ (t : List ℕ) {r : Read} where

@@ -3,30 +3,27 @@ use Prim.Native.Nat.{ℕ, suc, _+_}
 use mathlib.Core.List.{List, [], _∷_, _++_}
 use lib.ListN.{length}
 use lib.Dec.{leb, ltb}
-use Rattle.text.specs.Ranges.{pick, within}
+use Rattle.base.specs.Ranges.{pick, within}
 use Rattle.text.specs.Find.{begins}
 use Rattle.text.specs.Lines.{linesOf}
-use Rattle.text.specs.Sector.{bytesOf, largest}
-use Rattle.text.specs.declared.sector.ByteCount.{ByteCount}
-use Rattle.text.specs.declared.sector.ByteCount.the-variants.{Count, TooLarge}
-use Rattle.descriptor.specs.Record.{most, noDesc, descOf, recordOf, noRecord, refusal}
-use Rattle.descriptor.specs.Line.{lineOf}
-use Rattle.descriptor.specs.declared.line.Setting.{Setting}
-use Rattle.descriptor.specs.declared.line.Setting.the-variants.{Version, Cid, ParentCid, CreateType, Sectors, Heads, Cylinders}
-use Rattle.descriptor.specs.declared.line.Said.{Said}
-use Rattle.descriptor.specs.declared.line.Said.the-variants.{Nothing, Extent, Set, Refused}
-use Rattle.descriptor.specs.declared.record.Verdict.{Verdict}
-use Rattle.descriptor.specs.declared.record.Verdict.the-variants.{Sound, Refused as Stopped}
-use Rattle.descriptor.specs.declared.record.VmdkDesc.{VmdkDesc}
-use Rattle.descriptor.specs.declared.record.VmdkParsedExtent.{VmdkParsedExtent}
+use Rattle.numbers.specs.Sector.{bytesOf, largest}
+use Rattle.numbers.specs.declared.sector.ByteCount.{ByteCount}
+use Rattle.numbers.specs.declared.sector.ByteCount.the-variants.{Count, TooLarge}
+use Rattle.lines.specs.Record.{mostBytes, most, noDesc, descOf, recordOf, noRecord, refusal}
+use Rattle.lines.specs.Line.{lineOf}
+use Rattle.lines.specs.declared.line.Setting.{Setting}
+use Rattle.lines.specs.declared.line.Setting.the-variants.{Version, Cid, ParentCid, CreateType, Sectors, Heads, Cylinders}
+use Rattle.lines.specs.declared.line.Said.{Said}
+use Rattle.lines.specs.declared.line.Said.the-variants.{Nothing, Extent, Set, Refused}
+use Rattle.lines.specs.declared.record.Verdict.{Verdict}
+use Rattle.lines.specs.declared.record.Verdict.the-variants.{Sound, Refused as Stopped}
+use Rattle.lines.specs.declared.record.VmdkDesc.{VmdkDesc}
+use Rattle.lines.specs.declared.record.VmdkParsedExtent.{VmdkParsedExtent}
 use Rattle.descriptor.specs.declared.read.Read.{Read}
 
--- the least and the most bytes of a descriptor
+-- the least bytes of a descriptor
 abbrev pub leastBytes : ℕ
 leastBytes = 4
-
-abbrev pub mostBytes : ℕ
-mostBytes = 2097152
 
 -- the first four bytes of a sparse file
 abbrev pub sparse : List ℕ

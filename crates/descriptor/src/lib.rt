@@ -1,7 +1,2 @@
-// Probing and reading a VMDK descriptor: any bytes get an answer.
-mod extent;
-mod key;
-mod line;
-pub mod probe;
+// Reading a descriptor.
 pub mod read;
-pub mod record;

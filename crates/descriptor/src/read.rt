@@ -3,23 +3,23 @@ ghost use mathlib.Core.Path.{_≡_};
 ghost use Prim.Native.Nat.{_+_, _≤_};
 ghost use lib.ListN.{length};
 ghost use mathlib.Core.List.{[]};
-ghost use Rattle.descriptor.specs.Record.{refusal, noDesc, noExtent, filled};
+ghost use Rattle.lines.specs.Record.{refusal, noDesc, noExtent, filled};
 ghost use Rattle.descriptor.specs.Read.{refusedRead, setOf, checked, readOf};
 ghost use Rattle.descriptor.specs.Array.{heldIn, Tidy, sizesIn, readIn};
-use crate::line::Said;
-use crate::line::Setting;
-use crate::line::parse_descriptor_line;
-use crate::record::Record;
-use crate::record::Refusal;
-use crate::record::Text;
-use crate::record::Verdict;
-use crate::record::VmdkDesc;
-use crate::record::VmdkParsedExtent;
-use crate::record::VmdkParsedStorage;
+use lines::line::Said;
+use lines::line::Setting;
+use lines::line::parse_descriptor_line;
+use lines::record::Record;
+use lines::record::Refusal;
+use lines::record::Text;
+use lines::record::Verdict;
+use lines::record::VmdkDesc;
+use lines::record::VmdkParsedExtent;
+use lines::record::VmdkParsedStorage;
+use numbers::sector::ByteCount;
+use numbers::sector::Sectors;
 use text::find::line_end;
 use text::find::starts_with;
-use text::sector::ByteCount;
-use text::sector::Sectors;
 
 // What reading answers: a record, which is empty where the descriptor is refused.
 pub struct Read {

@@ -1,12 +1,11 @@
 // One case: a descriptor and its queries.
 use crate::line;
-use crate::out::number;
 use crate::out::text;
-use descriptor::record::Record;
-use descriptor::record::VmdkDesc;
-use extents::by_value::Listing;
-use extents::table::Piece;
-use extents::table::Table;
+use lines::record::Record;
+use lines::record::VmdkDesc;
+use tables::table::Piece;
+use tables::table::Table;
+use walks::by_value::Listing;
 ghost use Prim.Native.Nat.{_<_};
 
 // A byte as a number.
@@ -61,8 +60,7 @@ fn values(to: &mut [u8], at: usize, d: &[u8], v: VmdkDesc) -> usize {
 fn geometry(to: &mut [u8], at: usize, v: VmdkDesc) -> usize {
     let p = line::named(to, at, b"geometry ", v.sectors);
     let q = line::named(to, p, b" ", v.heads);
-    let r = line::named(to, q, b" ", v.cylinders);
-    text(to, r, b"\n")
+    line::last(to, q, b" ", v.cylinders)
 }
 
 // The rows of a table.
@@ -82,7 +80,7 @@ fn rows(to: &mut [u8], at: usize, d: &[u8], t: Table) -> usize {
 
 // A query for a mapping.
 fn map(to: &mut [u8], at: usize, d: &[u8], t: Table, offset: u64, length: u64) -> usize {
-    let m = extents::by_value::mapped(t, offset, length);
+    let m = walks::by_value::mapped(t, offset, length);
     let i = line::row_in(m);
     if i < 128 {
         let r = t.rows[i];
@@ -126,7 +124,7 @@ fn walk(
     offset: u64,
     length: u64,
 ) -> usize {
-    let l = extents::by_value::listed(t, places, offset, length);
+    let l = walks::by_value::listed(t, places, offset, length);
     let p = pieces(to, at, d, t, l);
     let w = l.walked;
     line::walked(to, p, w)
@@ -163,14 +161,13 @@ fn all(to: &mut [u8], at: usize, d: &[u8], t: Table, queries: &[u8]) -> usize {
 // The size and the rows of a table.
 fn table(to: &mut [u8], at: usize, d: &[u8], t: Table) -> usize {
     let p = line::named(to, at, b"size ", t.size.0);
-    let q = line::named(to, p, b"\nextents ", t.count as u64);
-    let r = text(to, q, b"\n");
-    rows(to, r, d, t)
+    let q = line::last(to, p, b"\nextents ", t.count as u64);
+    rows(to, q, d, t)
 }
 
 // What a record that was read gives: its table, and the answers to the queries.
 fn build(to: &mut [u8], at: usize, d: &[u8], r: Record, queries: &[u8]) -> usize {
-    let b = extents::build::build(r);
+    let b = tables::build::build(r);
     let v = b.verdict;
     if !line::is_sound(v) {
         return line::verdict(to, at, v);
@@ -185,7 +182,7 @@ fn build(to: &mut [u8], at: usize, d: &[u8], r: Record, queries: &[u8]) -> usize
 
 // Whether the bytes may be a descriptor.
 fn probe(to: &mut [u8], at: usize, d: &[u8]) -> usize {
-    if descriptor::probe::probe(d) {
+    if probing::probe::probe(d) {
         return text(to, at, b"probe yes\n");
     }
     text(to, at, b"probe no\n")
@@ -204,9 +201,7 @@ fn read(to: &mut [u8], at: usize, d: &[u8], queries: &[u8]) -> usize {
 
 // The answers of case k.
 pub fn answer(k: u64, d: &[u8], queries: &[u8], to: &mut [u8], at: usize) -> usize {
-    let a = text(to, at, b"case ");
-    let b = number(to, a, k);
-    let c = text(to, b, b"\n");
-    let p = probe(to, c, d);
-    read(to, p, d, queries)
+    let p = line::last(to, at, b"case ", k);
+    let q = probe(to, p, d);
+    read(to, q, d, queries)
 }

@@ -2,17 +2,17 @@
 use crate::out::hex;
 use crate::out::number;
 use crate::out::text;
-use descriptor::record::Text;
-use descriptor::record::Verdict;
-use descriptor::record::VmdkAccessType;
-use extents::table::Mapping;
-use extents::table::Piece;
-use extents::table::PieceSource;
-use extents::table::Row;
-use extents::table::ShallowMapping;
-use extents::table::Source;
-use extents::table::Stop;
-use extents::table::Walked;
+use lines::record::Text;
+use lines::record::Verdict;
+use lines::record::VmdkAccessType;
+use tables::table::Mapping;
+use tables::table::Piece;
+use tables::table::PieceSource;
+use tables::table::Row;
+use tables::table::ShallowMapping;
+use tables::table::Source;
+use tables::table::Stop;
+use tables::table::Walked;
 
 // The bytes of a text of the descriptor.
 pub fn bytes_of(d: &[u8], t: Text) -> &[u8] {
@@ -40,11 +40,16 @@ pub fn named(to: &mut [u8], at: usize, name: &[u8], n: u64) -> usize {
     number(to, p, n)
 }
 
+// A number after its name, and the line's end.
+pub fn last(to: &mut [u8], at: usize, name: &[u8], n: u64) -> usize {
+    let p = named(to, at, name, n);
+    text(to, p, b"\n")
+}
+
 // A refusal's numbers.
 pub fn refused(to: &mut [u8], at: usize, n: u64, second: u64) -> usize {
     let p = named(to, at, b"refused ", n);
-    let q = named(to, p, b" ", second);
-    text(to, q, b"\n")
+    last(to, p, b" ", second)
 }
 
 // Whether a verdict is a refusal, which is then written.
@@ -137,20 +142,15 @@ pub fn row_in(m: Mapping) -> usize {
 pub fn mapping(to: &mut [u8], at: usize, d: &[u8], m: Mapping, name: Text) -> usize {
     let s = m.mapping;
     match s {
-        ShallowMapping::Eof => {
-            let p = named(to, at, b"end run 0 looked ", m.looked as u64);
-            text(to, p, b"\n")
-        }
+        ShallowMapping::Eof => last(to, at, b"end run 0 looked ", m.looked as u64),
         ShallowMapping::Refused(n) => {
             let p = named(to, at, b"refused ", n as u64);
-            let q = named(to, p, b" 0 run 0 looked ", m.looked as u64);
-            text(to, q, b"\n")
+            last(to, p, b" 0 run 0 looked ", m.looked as u64)
         }
         ShallowMapping::Zero(i) => {
             let p = named(to, at, b"zero run ", m.run);
             let q = named(to, p, b" row ", i as u64);
-            let r = named(to, q, b" looked ", m.looked as u64);
-            text(to, r, b"\n")
+            last(to, q, b" looked ", m.looked as u64)
         }
         ShallowMapping::Raw(i, offset, w) => {
             let p = named(to, at, b"raw ", offset);
@@ -169,10 +169,7 @@ pub fn piece(to: &mut [u8], at: usize, d: &[u8], x: Piece, name: Text) -> usize 
     let q = named(to, p, b" ", x.run);
     let s = x.source;
     match s {
-        PieceSource::Zero => {
-            let r = named(to, q, b" zero row ", x.row as u64);
-            text(to, r, b"\n")
-        }
+        PieceSource::Zero => last(to, q, b" zero row ", x.row as u64),
         PieceSource::Raw => {
             let r = named(to, q, b" raw ", x.file_offset);
             let u = named(to, r, b" row ", x.row as u64);
@@ -200,6 +197,5 @@ pub fn walked(to: &mut [u8], at: usize, w: Walked) -> usize {
     let p = stop(to, at, s);
     let q = named(to, p, b" at ", w.position);
     let r = named(to, q, b" pieces ", w.count as u64);
-    let u = named(to, r, b" looked ", w.looked as u64);
-    text(to, u, b"\n")
+    last(to, r, b" looked ", w.looked as u64)
 }

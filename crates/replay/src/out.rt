@@ -1,7 +1,7 @@
 // Output through a buffer that is written out when it is nearly full.
 use libc::STDOUT_FILENO;
-use report::put::put;
-use report::put::put_decimal;
+use puts::put::put;
+use puts::put::put_decimal;
 
 // Writes out what the buffer holds.
 pub fn flush(to: &mut [u8], at: usize) {

@@ -9,21 +9,21 @@ use lib.ListN.{length}
 use borrow.Author.Needs.{needs}
 use borrow.Author.Tests.{eq-eqb, ne-eqb, le-leb, lt-leb}
 use Rattle.text.specs.Find.{same}
-use Rattle.text.specs.Number.{numberOf}
-use Rattle.text.specs.Sector.{largest}
-use Rattle.text.specs.declared.number.Num.{Num}
-use Rattle.text.specs.declared.number.Num.the-variants.{Value, Bad}
-use Rattle.descriptor.specs.Key.{ascii}
-use Rattle.descriptor.specs.Record.{most}
-use Rattle.report.specs.Put.{Put}
-use Rattle.report.specs.Line.{refusedLine}
-use Rattle.report.specs.Report.{reportOf}
-use Rattle.report.specs.Map.{mapLineOf}
-use Rattle.report.specs.Walk.{walkLinesOf}
+use Rattle.numbers.specs.Number.{numberOf}
+use Rattle.numbers.specs.Sector.{largest}
+use Rattle.numbers.specs.declared.number.Num.{Num}
+use Rattle.numbers.specs.declared.number.Num.the-variants.{Value, Bad}
+use Rattle.base.specs.Ascii.{ascii}
+use Rattle.lines.specs.Record.{most}
+use Rattle.puts.specs.Put.{Put}
+use Rattle.phrases.specs.Line.{refusedLine}
+use Rattle.disk_lines.specs.Report.{reportOf}
+use Rattle.map_lines.specs.Map.{mapLineOf}
+use Rattle.walk_lines.specs.Walk.{walkLinesOf}
 use Rattle.report.specs.Command.{mostInput, rangeOf, placesOf, commandOf, answerOf}
 use Rattle.report.specs.declared.command.Command.{Command}
 use Rattle.report.specs.declared.command.Command.the-variants.{Report, Map, Walk, Usage}
-use Rattle.report.proofs.Puts.{put-none, put-length}
+use Rattle.puts.proofs.Puts.{put-none, put-length}
 
 -- Rules of `range`
 module _ (a b : List ℕ) {x y : Num} (p : x ≡ numberOf largest a) (q : y ≡ numberOf largest b) where

@@ -1,10 +1,1 @@
-pub mod Puts
-pub mod Decimals
-pub mod Digits
-pub mod Lines
-pub mod Openings
-pub mod Reports
-pub mod Maps
-pub mod Walks
 pub mod Commands
-pub mod Theorems

@@ -3,18 +3,18 @@ use Prim.Native.Nat.{ℕ}
 use mathlib.Core.List.{List, []}
 use lib.ListN.{length}
 use lib.Dec.{leb, eqb}
-use Rattle.text.specs.Ranges.{pick}
+use Rattle.base.specs.Ranges.{pick}
 use Rattle.text.specs.Find.{same}
-use Rattle.text.specs.Number.{numberOf}
-use Rattle.text.specs.Sector.{largest}
-use Rattle.text.specs.declared.number.Num.{Num}
-use Rattle.text.specs.declared.number.Num.the-variants.{Value, Bad}
-use Rattle.descriptor.specs.Key.{ascii}
-use Rattle.descriptor.specs.Record.{most}
-use Rattle.report.specs.Line.{refusedLine}
-use Rattle.report.specs.Report.{reportOf}
-use Rattle.report.specs.Map.{mapLineOf}
-use Rattle.report.specs.Walk.{walkLinesOf}
+use Rattle.numbers.specs.Number.{numberOf}
+use Rattle.numbers.specs.Sector.{largest}
+use Rattle.numbers.specs.declared.number.Num.{Num}
+use Rattle.numbers.specs.declared.number.Num.the-variants.{Value, Bad}
+use Rattle.base.specs.Ascii.{ascii}
+use Rattle.lines.specs.Record.{most}
+use Rattle.phrases.specs.Line.{refusedLine}
+use Rattle.disk_lines.specs.Report.{reportOf}
+use Rattle.map_lines.specs.Map.{mapLineOf}
+use Rattle.walk_lines.specs.Walk.{walkLinesOf}
 use Rattle.report.specs.declared.command.Command.{Command}
 use Rattle.report.specs.declared.command.Command.the-variants.{Report, Map, Walk, Usage}
 

@@ -1,17 +1,17 @@
 // The answers. Each is written into a buffer that the caller lends, and cut where the buffer ends; what comes back is the length of
 // the whole answer, within 2^64-1.
 ghost use mathlib.Core.Path.{_≡_};
-ghost use Rattle.report.specs.Put.{pasted, after, Put};
-ghost use Rattle.report.specs.Report.{reportOf};
-ghost use Rattle.report.specs.Map.{mapLineOf};
-ghost use Rattle.report.specs.Walk.{walkLinesOf};
+ghost use Rattle.puts.specs.Put.{pasted, after, Put};
+ghost use Rattle.disk_lines.specs.Report.{reportOf};
+ghost use Rattle.map_lines.specs.Map.{mapLineOf};
+ghost use Rattle.walk_lines.specs.Walk.{walkLinesOf};
 ghost use Rattle.report.specs.Command.{answerOf};
 use crate::command::Command;
-use crate::line::refused_line;
-use crate::map::put_map;
-use crate::walk::put_walk;
-use crate::whole::put_report;
-use descriptor::record::Refusal;
+use disk_lines::whole::put_report;
+use lines::record::Refusal;
+use map_lines::map::put_map;
+use phrases::line::refused_line;
+use walk_lines::walk::put_walk;
 
 // The report of a descriptor.
 pub fn report(d: &[u8], out: &mut [u8]) -> usize

@@ -1,9 +1,3 @@
-// The answers as text, written into a buffer that the caller lends.
+// The answers as text, written into a buffer that the caller lends, and which answer is asked for.
 pub mod answer;
 pub mod command;
-mod line;
-mod map;
-mod opening;
-pub mod put;
-mod walk;
-mod whole;

@@ -18,7 +18,7 @@ use Rattle.text.specs.declared.find.Place.{Place}
 use Rattle.text.specs.declared.find.Part.{Part}
 use Rattle.text.specs.declared.find.Place.the-variants.{Here, Nowhere}
 use Rattle.text.proofs.Parts.{take-count, block-byte, block-long}
-use Rattle.text.proofs.Flat.{by-test, pick-same, both, unequal}
+use Rattle.base.proofs.Flat.{by-test, pick-same, both, unequal}
 
 -- Rules of the loop of `find_byte`. `search finds` finds their premises by itself: what the loop keeps, and the tests on the way.
 module _ (b : ℕ) (t : List ℕ) (from at : ℕ) (i : findAt b t from ≡ findAt b t at) where

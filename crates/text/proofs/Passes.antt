@@ -13,14 +13,14 @@ use mir.Val.{Fits}
 use borrow.Author.Needs.{needs}
 use borrow.Author.Tests.{ltb-true, ltb-false, leb-true, leb-false, eqb-true, eqb-false}
 use Rattle.text.specs.Blocks.{below, Passed, widthIn}
-use Rattle.text.specs.Utf8.{leadOf, tailAt, charOf, charAt}
+use Rattle.unicode.specs.Utf8.{leadOf, tailAt, charOf, charAt}
 use Rattle.text.specs.Text.{sound, textAt}
-use Rattle.text.specs.declared.utf8.Lead.the-variants.{Row as Lead·Row}
-use Rattle.text.specs.declared.utf8.Char.{Char}
-use Rattle.text.specs.declared.utf8.Char.the-variants.{Scalar, Bad, End}
-use Rattle.text.proofs.Flat.{by-test, both, unless, within-in}
+use Rattle.unicode.specs.declared.utf8.Lead.the-variants.{Row as Lead·Row}
+use Rattle.unicode.specs.declared.utf8.Char.{Char}
+use Rattle.unicode.specs.declared.utf8.Char.the-variants.{Scalar, Bad, End}
+use Rattle.base.proofs.Flat.{by-test, both, unless, within-in}
 use Rattle.text.proofs.Parts.{part-rest, block-byte, block-long}
-use Rattle.text.proofs.Chars.{lead-in, char-at, char-end, tail-read, tail-none}
+use Rattle.unicode.proofs.Chars.{lead-in, char-at, char-end, tail-read, tail-none}
 use Rattle.text.proofs.Texts.{Fit, fit, wide-at, next-fits, next-less, text-step, text-bad, text-end}
 
 -- ---- one character

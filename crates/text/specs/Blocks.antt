@@ -6,11 +6,11 @@ use mathlib.Core.Bool.{Bool, true, false, _&&_, not}
 use mathlib.Core.Path.{_≡_}
 use lib.ListN.{length, getD}
 use lib.Dec.{eqb, ltb}
-use Rattle.text.specs.Ranges.{pick, within}
-use Rattle.text.specs.Blank.{blank}
+use Rattle.base.specs.Ranges.{pick, within}
+use Rattle.unicode.specs.Blank.{blank}
 use Rattle.text.specs.Text.{sound, textAt}
-use Rattle.text.specs.declared.utf8.Char.{Char}
-use Rattle.text.specs.declared.utf8.Char.the-variants.{Scalar, Bad, End}
+use Rattle.unicode.specs.declared.utf8.Char.{Char}
+use Rattle.unicode.specs.declared.utf8.Char.the-variants.{Scalar, Bad, End}
 
 -- none of the first n bytes is b
 unfoldable pub without : ℕ → ℕ → List ℕ → Bool

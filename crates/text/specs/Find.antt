@@ -4,7 +4,7 @@ use mathlib.Core.List.{List, [], _∷_}
 use mathlib.Core.Bool.{Bool, true, false}
 use lib.ListN.{length, getD, take, drop}
 use lib.Dec.{leb, eqb}
-use Rattle.text.specs.Ranges.{pick}
+use Rattle.base.specs.Ranges.{pick}
 use Rattle.text.specs.declared.find.Place.{Place}
 use Rattle.text.specs.declared.find.Place.the-variants.{Here, Nowhere}
 use Rattle.text.specs.declared.find.Part.{Part}

@@ -1,8 +1,4 @@
-// The text layer of the descriptor reader: characters, blanks, trimming, words, lines, numbers, quotes and sectors.
-pub mod blank;
+// Lines, trimming, words, quotes, and the place of a byte.
 pub mod find;
-pub mod number;
-pub mod sector;
-pub mod utf8;
 mod valid;
 pub mod words;

@@ -4,10 +4,10 @@ ghost use Prim.Native.Nat.{_≤_, _<_};
 ghost use mathlib.Core.Bool.{true};
 ghost use lib.ListN.{length};
 ghost use Rattle.text.specs.Blocks.{below, Passed, widthIn};
-ghost use Rattle.text.specs.Utf8.{charAt};
+ghost use Rattle.unicode.specs.Utf8.{charAt};
 ghost use Rattle.text.specs.Text.{sound, textAt};
-use crate::utf8::Char;
-use crate::utf8::next_char;
+use unicode::utf8::Char;
+use unicode::utf8::next_char;
 
 // Whether the first 16 bytes are all below 80.
 fn low(t: &[u8]) -> bool

@@ -1,12 +1,12 @@
 // The answer of each function of the text layer, as three numbers.
+use numbers::number::Num;
+use numbers::sector::ByteCount;
+use numbers::sector::SectorCount;
+use numbers::sector::Sectors;
 use text::find::Place;
-use text::number::Num;
-use text::sector::ByteCount;
-use text::sector::SectorCount;
-use text::sector::Sectors;
-use text::utf8::Char;
 use text::words::Trimmed;
 use text::words::Word;
+use unicode::utf8::Char;
 
 // An answer: which of its cases, and the values of that case.
 pub struct Answer {
@@ -43,7 +43,7 @@ fn places(a: usize, b: usize) -> Answer {
 
 // c: the character that a text starts with, its code point and its width.
 fn character(t: &[u8]) -> Answer {
-    let c = text::utf8::next_char(t, 0);
+    let c = unicode::utf8::next_char(t, 0);
     match c {
         Char::Scalar(code, width) => Answer {
             tag: 1,
@@ -57,9 +57,9 @@ fn character(t: &[u8]) -> Answer {
 
 // b: whether that character is a blank.
 fn blank(t: &[u8]) -> Answer {
-    let c = text::utf8::next_char(t, 0);
+    let c = unicode::utf8::next_char(t, 0);
     match c {
-        Char::Scalar(code, _) => yes(text::blank::is_blank(code)),
+        Char::Scalar(code, _) => yes(unicode::blank::is_blank(code)),
         Char::Bad => bare(2),
         Char::End => bare(2),
     }
@@ -85,7 +85,7 @@ fn word(t: &[u8]) -> Answer {
 
 // n and v: the number that a text is, up to 2^64-1 and up to 2^32-1.
 fn number(t: &[u8], limit: u64) -> Answer {
-    let n = text::number::number(t, limit);
+    let n = numbers::number::number(t, limit);
     match n {
         Num::Value(v) => Answer { tag: 1, a: v, b: 0 },
         Num::Bad => bare(0),

@@ -8,15 +8,15 @@ use mathlib.Core.Path.{_≡_, sym, ap, _∙_, subst}
 use lib.ListN.{length}
 use lib.Dec.{leb}
 use borrow.Author.Tests.{lt-leb, leb-true, leb-false}
-use Rattle.descriptor.specs.Record.{most}
-use Rattle.descriptor.specs.declared.record.Record.{Record}
-use Rattle.extents.specs.declared.table.Table.{Table}
-use Rattle.extents.specs.declared.table.Stop.the-variants.{More, Refused as Stopped}
-use Rattle.extents.specs.Walk.{Walk, ends, walkFrom, walkOf}
+use Rattle.lines.specs.Record.{most}
+use Rattle.lines.specs.declared.record.Record.{Record}
+use Rattle.tables.specs.declared.table.Table.{Table}
+use Rattle.tables.specs.declared.table.Stop.the-variants.{More, Refused as Stopped}
+use Rattle.walks.specs.Walk.{Walk, ends, walkFrom, walkOf}
 use Rattle.theorems.specs.Rows.{Builds}
 use Rattle.theorems.specs.Tiling.{All}
 use Rattle.theorems.specs.Continuing.{partsOf, placesIn, Continues, ContinuesWhole}
-use Rattle.text.proofs.Flat.{by-test}
+use Rattle.base.proofs.Flat.{by-test}
 use Rattle.theorems.proofs.Rows.{built-in-rows}
 use Rattle.theorems.proofs.Joins.{more-places, walk-of, parts-from, parts-refused, parts-long, long-call}
 use Rattle.theorems.proofs.Enough.{room-enough, all-pieces, room-enough-held}

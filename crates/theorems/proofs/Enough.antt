@@ -7,21 +7,21 @@ use mathlib.Core.List.{[], append-nil}
 use mathlib.Core.Path.{_≡_, refl, ap, _∙_, subst}
 use lib.Dec.{leb, ltb, eqb}
 use borrow.Author.Tests.{ltb-true, ltb-false, lt-ltb, le-ltb, eqb-true, eqb-false}
-use Rattle.text.specs.Ranges.{pick}
-use Rattle.text.specs.Sector.{largest}
-use Rattle.descriptor.specs.Record.{most}
-use Rattle.extents.specs.declared.table.Source.{Source}
-use Rattle.extents.specs.declared.table.Source.the-variants.{NoAccess as Locked, Zero as Zeros, Flat as File}
-use Rattle.extents.specs.declared.table.Table.{Table}
-use Rattle.extents.specs.declared.table.ShallowMapping.{ShallowMapping}
-use Rattle.extents.specs.declared.table.ShallowMapping.the-variants.{Eof, Zero, Raw, Refused}
-use Rattle.extents.specs.declared.table.Stop.{Stop}
-use Rattle.extents.specs.declared.table.Stop.the-variants.{Done, More, Refused as Stopped}
-use Rattle.extents.specs.Map.{Search, found, nowhere, sourced, inRow, searchOf, mapOf}
-use Rattle.extents.specs.Walk.{Walk, step, walkFrom}
+use Rattle.base.specs.Ranges.{pick}
+use Rattle.numbers.specs.Sector.{largest}
+use Rattle.lines.specs.Record.{most}
+use Rattle.tables.specs.declared.table.Source.{Source}
+use Rattle.tables.specs.declared.table.Source.the-variants.{NoAccess as Locked, Zero as Zeros, Flat as File}
+use Rattle.tables.specs.declared.table.Table.{Table}
+use Rattle.tables.specs.declared.table.ShallowMapping.{ShallowMapping}
+use Rattle.tables.specs.declared.table.ShallowMapping.the-variants.{Eof, Zero, Raw, Refused}
+use Rattle.tables.specs.declared.table.Stop.{Stop}
+use Rattle.tables.specs.declared.table.Stop.the-variants.{Done, More, Refused as Stopped}
+use Rattle.maps.specs.Map.{Search, found, nowhere, sourced, inRow, searchOf, mapOf}
+use Rattle.walks.specs.Walk.{Walk, step, walkFrom}
 use Rattle.theorems.specs.Rows.{rowAt, OneRow}
 use Rattle.theorems.specs.Continuing.{goOn}
-use Rattle.text.proofs.Flat.{by-test}
+use Rattle.base.proofs.Flat.{by-test}
 use Rattle.theorems.proofs.Rows.{holds-true}
 use Rattle.theorems.proofs.Halving.{few-looks}
 use Rattle.theorems.proofs.Routes.{over-or-on, walk-full, walk-step}

@@ -9,46 +9,46 @@ use lib.ListN.{length, take, drop, length-append}
 use lib.Dec.{ltb}
 use lib.Seq.{take-append-seam, drop-append-add, drop-drop}
 use borrow.Author.Tests.{ltb-true}
-use Rattle.text.specs.Ranges.{pick}
-use Rattle.text.specs.Blank.{blank}
+use Rattle.base.specs.Ranges.{pick}
+use Rattle.unicode.specs.Blank.{blank}
 use Rattle.text.specs.Find.{findFrom, findAt, same}
 use Rattle.text.specs.Lines.{count}
 use Rattle.text.specs.Text.{textAt, sound, trimOf, trimmed, wordOf, wordCodes}
 use Rattle.theorems.specs.Unicode.{scalars, encodeAll}
-use Rattle.text.specs.Sector.{sectorsOf}
+use Rattle.numbers.specs.Sector.{sectorsOf}
 use Rattle.text.specs.declared.words.Trimmed.{Trimmed}
 use Rattle.text.specs.declared.words.Trimmed.the-variants.{Range, Wrong}
 use Rattle.text.specs.declared.words.Word.{Word}
 use Rattle.text.specs.declared.words.Word.the-variants.{Found, None}
 use Rattle.text.specs.declared.find.Place.the-variants.{Here}
-use Rattle.text.specs.declared.sector.Sectors.{Sectors}
-use Rattle.text.specs.declared.sector.SectorCount.{SectorCount}
-use Rattle.text.specs.declared.sector.SectorCount.the-variants.{Count as Sectors·Count, Bad as Sectors·Bad}
-use Rattle.text.proofs.Flat.{by-test}
+use Rattle.numbers.specs.declared.sector.Sectors.{Sectors}
+use Rattle.numbers.specs.declared.sector.SectorCount.{SectorCount}
+use Rattle.numbers.specs.declared.sector.SectorCount.the-variants.{Count as Sectors·Count, Bad as Sectors·Bad}
+use Rattle.base.proofs.Flat.{by-test}
 use Rattle.text.proofs.Trims.{trim-wrong}
 use Rattle.text.proofs.Finds.{same-is}
 use Rattle.text.proofs.Bounds.{trim-within}
 use Rattle.theorems.proofs.Spellings.{word-none-codes, word-some-codes}
-use Rattle.descriptor.specs.Key.{ascii}
-use Rattle.descriptor.specs.Kept.{keptOf}
-use Rattle.descriptor.specs.Extent.{part, countedWord, secondWord, secondOf, thirdWord, thirdOf, threeWords, fileNameOf, startWord, fileStartOf, flatFrom, flatBy, flatLine, noAccessBy, noAccessLine, byThird, bySecond, extentLine}
-use Rattle.descriptor.specs.Line.{keyLine, accessWord, accessLine, firstBlank, skipped, textLine, trimmedLine, lineOf}
+use Rattle.base.specs.Ascii.{ascii}
+use Rattle.lines.specs.Kept.{keptOf}
+use Rattle.lines.specs.Extent.{part, countedWord, secondWord, secondOf, thirdWord, thirdOf, threeWords, fileNameOf, startWord, fileStartOf, flatFrom, flatBy, flatLine, noAccessBy, noAccessLine, byThird, bySecond, extentLine}
+use Rattle.lines.specs.Line.{keyLine, accessWord, accessLine, firstBlank, skipped, textLine, trimmedLine, lineOf}
 use Rattle.theorems.specs.Statements.{NextWord, Quotes, textIn, FileIn, accessText, ExtentIn}
-use Rattle.descriptor.specs.declared.extent.Second.{Second}
-use Rattle.descriptor.specs.declared.extent.Second.the-variants.{Count, Bad}
-use Rattle.descriptor.specs.declared.extent.Third.{Third}
-use Rattle.descriptor.specs.declared.extent.Third.the-variants.{Missing, Zero, Flat, Unsupported}
-use Rattle.descriptor.specs.declared.extent.FileName.{FileName}
-use Rattle.descriptor.specs.declared.extent.FileName.the-variants.{Name, Refused as NameRefused}
-use Rattle.descriptor.specs.declared.line.Said.{Said}
-use Rattle.descriptor.specs.declared.line.Said.the-variants.{Nothing, Extent, Set, Refused}
-use Rattle.descriptor.specs.declared.line.AccessWord.{AccessWord}
-use Rattle.descriptor.specs.declared.line.AccessWord.the-variants.{NoAccess, RdOnly, RW, Other}
-use Rattle.descriptor.specs.declared.record.Text.{Text}
-use Rattle.descriptor.specs.declared.record.VmdkAccessType.{VmdkAccessType}
-use Rattle.descriptor.specs.declared.record.VmdkAccessType.the-variants.{RdOnly as ReadOnly, RW as ReadWrite}
-use Rattle.descriptor.specs.declared.record.VmdkParsedExtent.{VmdkParsedExtent}
-use Rattle.descriptor.specs.declared.record.VmdkParsedStorage.the-variants.{Flat as File}
+use Rattle.lines.specs.declared.extent.Second.{Second}
+use Rattle.lines.specs.declared.extent.Second.the-variants.{Count, Bad}
+use Rattle.lines.specs.declared.extent.Third.{Third}
+use Rattle.lines.specs.declared.extent.Third.the-variants.{Missing, Zero, Flat, Unsupported}
+use Rattle.lines.specs.declared.extent.FileName.{FileName}
+use Rattle.lines.specs.declared.extent.FileName.the-variants.{Name, Refused as NameRefused}
+use Rattle.lines.specs.declared.line.Said.{Said}
+use Rattle.lines.specs.declared.line.Said.the-variants.{Nothing, Extent, Set, Refused}
+use Rattle.lines.specs.declared.line.AccessWord.{AccessWord}
+use Rattle.lines.specs.declared.line.AccessWord.the-variants.{NoAccess, RdOnly, RW, Other}
+use Rattle.lines.specs.declared.record.Text.{Text}
+use Rattle.lines.specs.declared.record.VmdkAccessType.{VmdkAccessType}
+use Rattle.lines.specs.declared.record.VmdkAccessType.the-variants.{RdOnly as ReadOnly, RW as ReadWrite}
+use Rattle.lines.specs.declared.record.VmdkParsedExtent.{VmdkParsedExtent}
+use Rattle.lines.specs.declared.record.VmdkParsedStorage.the-variants.{Flat as File}
 use Rattle.theorems.proofs.RefusalNumbers.{OfKey, key-keys, four}
 use Rattle.theorems.proofs.Trimming.{Trimming, trim-parts, encode-append, encode-cut, scalars-split, cut-at, blanks-free, count-append, find-none, find-behind}
 use Rattle.theorems.proofs.LinePlaces.{Lies, part-lies, kept-is}

@@ -9,19 +9,19 @@ use mathlib.Core.Path.{_≡_, refl, sym, ap, _∙_, subst}
 use lib.ListN.{length, getD}
 use lib.Dec.{leb, ltb}
 use borrow.Author.Tests.{le-leb, lt-leb, leb-true, leb-false, ltb-true, ltb-false}
-use Rattle.text.specs.Sector.{largest}
-use Rattle.descriptor.specs.Record.{most, counted}
-use Rattle.descriptor.specs.declared.record.Record.{Record}
-use Rattle.descriptor.specs.declared.record.VmdkParsedExtent.{VmdkParsedExtent}
-use Rattle.extents.specs.declared.table.Source.{Source}
-use Rattle.extents.specs.declared.table.Source.the-variants.{NoAccess as Locked, Zero as Zeros, Flat as File}
-use Rattle.extents.specs.declared.table.Row.{Row}
-use Rattle.extents.specs.declared.table.Table.{Table}
-use Rattle.extents.specs.Build.{noRow}
-use Rattle.extents.specs.Map.{Search, found, nowhere, looked, holds, middle, halve, sourced, inRow, searchOf, mapOf}
-use Rattle.extents.specs.Place.{sizeOf}
+use Rattle.numbers.specs.Sector.{largest}
+use Rattle.lines.specs.Record.{most, counted}
+use Rattle.lines.specs.declared.record.Record.{Record}
+use Rattle.lines.specs.declared.record.VmdkParsedExtent.{VmdkParsedExtent}
+use Rattle.tables.specs.declared.table.Source.{Source}
+use Rattle.tables.specs.declared.table.Source.the-variants.{NoAccess as Locked, Zero as Zeros, Flat as File}
+use Rattle.tables.specs.declared.table.Row.{Row}
+use Rattle.tables.specs.declared.table.Table.{Table}
+use Rattle.tables.specs.Build.{noRow}
+use Rattle.maps.specs.Map.{Search, found, nowhere, looked, holds, middle, halve, sourced, inRow, searchOf, mapOf}
+use Rattle.maps.specs.Place.{sizeOf}
 use Rattle.theorems.specs.Looks.{looks, Finds, FewLooks}
-use Rattle.text.proofs.Flat.{by-test}
+use Rattle.base.proofs.Flat.{by-test}
 use Rattle.theorems.proofs.Orders.{three-ways}
 use Rattle.theorems.specs.Rows.{Builds, rowAt}
 use Rattle.theorems.proofs.Built.{tableIn, table-laid, length-laid}

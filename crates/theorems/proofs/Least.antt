@@ -8,11 +8,11 @@ use mathlib.Core.Option.{some}
 use mathlib.Core.Path.{_≡_, refl, sym, ap, _∙_, subst}
 use mathlib.Core.Logic.{_↔_}
 use lib.ListN.{length}
-use Rattle.descriptor.specs.declared.record.VmdkParsedExtent.{VmdkParsedExtent}
-use Rattle.extents.specs.declared.table.Piece.{Piece}
-use Rattle.extents.specs.declared.table.PieceSource.{PieceSource}
-use Rattle.extents.specs.declared.table.PieceSource.the-variants.{Zero as Zeros, Raw as File}
-use Rattle.extents.specs.Place.{placeOf}
+use Rattle.lines.specs.declared.record.VmdkParsedExtent.{VmdkParsedExtent}
+use Rattle.tables.specs.declared.table.Piece.{Piece}
+use Rattle.tables.specs.declared.table.PieceSource.{PieceSource}
+use Rattle.tables.specs.declared.table.PieceSource.the-variants.{Zero as Zeros, Raw as File}
+use Rattle.maps.specs.Place.{placeOf}
 use Rattle.theorems.specs.Tiling.{rowsOf, Rise, Placed, All, Follow, sourceAt, Range, Chain, numberOf, InOne}
 use Rattle.theorems.proofs.Orders.{three-ways}
 

@@ -10,17 +10,17 @@ use mathlib.Core.Logic.{_⊎_, inl, inr, _↔_}
 use lib.ListN.{length}
 use lib.Dec.{eqb, leb}
 use borrow.Author.Tests.{leb-true, leb-false, eqb-true, eqb-false}
-use Rattle.descriptor.specs.declared.record.VmdkParsedExtent.{VmdkParsedExtent}
-use Rattle.extents.specs.declared.table.Table.{Table}
-use Rattle.extents.specs.declared.table.ShallowMapping.{ShallowMapping}
-use Rattle.extents.specs.declared.table.ShallowMapping.the-variants.{Eof, Zero, Raw, Refused}
-use Rattle.extents.specs.declared.table.Stop.{Stop}
-use Rattle.extents.specs.declared.table.Stop.the-variants.{Done, Refused as Stopped}
-use Rattle.extents.specs.Map.{mapOf}
-use Rattle.extents.specs.Place.{sizeOf, placeOf}
-use Rattle.extents.specs.Walk.{Walk, step, walkFrom}
+use Rattle.lines.specs.declared.record.VmdkParsedExtent.{VmdkParsedExtent}
+use Rattle.tables.specs.declared.table.Table.{Table}
+use Rattle.tables.specs.declared.table.ShallowMapping.{ShallowMapping}
+use Rattle.tables.specs.declared.table.ShallowMapping.the-variants.{Eof, Zero, Raw, Refused}
+use Rattle.tables.specs.declared.table.Stop.{Stop}
+use Rattle.tables.specs.declared.table.Stop.the-variants.{Done, Refused as Stopped}
+use Rattle.maps.specs.Map.{mapOf}
+use Rattle.maps.specs.Place.{sizeOf, placeOf}
+use Rattle.walks.specs.Walk.{Walk, step, walkFrom}
 use Rattle.theorems.specs.Tiling.{isLocked, firstLocked, noAccessFrom, FirstNoAccess, Meets}
-use Rattle.text.proofs.Flat.{by-test}
+use Rattle.base.proofs.Flat.{by-test}
 use Rattle.theorems.proofs.Halving.{looked-eight}
 use Rattle.theorems.proofs.Routes.{over-or-on, walk-full, walk-step}
 use Rattle.theorems.proofs.Tiles.{Why, Reached}

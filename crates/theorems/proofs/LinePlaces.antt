@@ -12,11 +12,11 @@ use Rattle.text.specs.Text.{trimOf, trimmed}
 use Rattle.text.specs.Lines.{joinLines}
 use Rattle.text.specs.declared.words.Trimmed.{Trimmed}
 use Rattle.text.specs.declared.words.Trimmed.the-variants.{Range, Wrong}
-use Rattle.text.proofs.Flat.{by-test}
+use Rattle.base.proofs.Flat.{by-test}
 use Rattle.text.proofs.Bounds.{trim-within}
 use Rattle.text.proofs.Lines.{lines-join}
-use Rattle.descriptor.specs.Kept.{keptAt, keptOf}
-use Rattle.descriptor.specs.Extent.{part}
+use Rattle.lines.specs.Kept.{keptAt, keptOf}
+use Rattle.lines.specs.Extent.{part}
 use Rattle.theorems.specs.Statements.{placeAfter, LineAt, textIn}
 
 -- the bytes l stand in d at the place p

@@ -8,19 +8,19 @@ use mathlib.Core.Path.{_≡_, refl, sym, _∙_, subst}
 use lib.ListN.{length, getD, take}
 use lib.Dec.{leb}
 use borrow.Author.Tests.{le-leb, lt-leb, leb-true, leb-false}
-use Rattle.text.specs.Sector.{largest, sectorSize}
-use Rattle.descriptor.specs.Record.{most, counted, noExtent}
-use Rattle.descriptor.specs.declared.record.Record.{Record}
-use Rattle.descriptor.specs.declared.record.VmdkParsedExtent.{VmdkParsedExtent}
-use Rattle.descriptor.specs.declared.record.VmdkParsedStorage.{VmdkParsedStorage}
-use Rattle.descriptor.specs.declared.record.VmdkParsedStorage.the-variants.{NoAccess, Zero, Flat}
-use Rattle.extents.specs.declared.table.Table.{Table}
-use Rattle.extents.specs.Map.{sourced, inRow, searchOf, mapOf}
-use Rattle.extents.specs.Place.{past, within, bytesIn, sizeOf, placeOf}
+use Rattle.numbers.specs.Sector.{largest, sectorSize}
+use Rattle.lines.specs.Record.{most, counted, noExtent}
+use Rattle.lines.specs.declared.record.Record.{Record}
+use Rattle.lines.specs.declared.record.VmdkParsedExtent.{VmdkParsedExtent}
+use Rattle.lines.specs.declared.record.VmdkParsedStorage.{VmdkParsedStorage}
+use Rattle.lines.specs.declared.record.VmdkParsedStorage.the-variants.{NoAccess, Zero, Flat}
+use Rattle.tables.specs.declared.table.Table.{Table}
+use Rattle.maps.specs.Map.{sourced, inRow, searchOf, mapOf}
+use Rattle.maps.specs.Place.{past, within, bytesIn, sizeOf, placeOf}
 use Rattle.theorems.specs.Rows.{Builds, sourceOf}
 use Rattle.theorems.specs.Looks.{looks}
 use Rattle.theorems.specs.Maps.{restOf, shown, runAt, MapsBy}
-use Rattle.text.proofs.Flat.{by-test}
+use Rattle.base.proofs.Flat.{by-test}
 use Rattle.theorems.proofs.Built.{tableIn, table-laid, length-laid}
 use Rattle.theorems.proofs.Places.{Held, held, beyond}
 use Rattle.theorems.proofs.Rows.{row-in, size-upto}

@@ -3,24 +3,24 @@
 -- Assumes nothing.
 use mathlib.Core.List.{map}
 use mathlib.Core.Path.{_≡_, refl}
-use Rattle.text.specs.Sector.{sectorsOf, bytesOf}
-use Rattle.text.specs.Utf8.{leadOf, tailOf, charOf}
-use Rattle.text.specs.Blank.{blank}
+use Rattle.numbers.specs.Sector.{sectorsOf, bytesOf}
+use Rattle.unicode.specs.Utf8.{leadOf, tailOf, charOf}
+use Rattle.unicode.specs.Blank.{blank}
 use Rattle.text.specs.Text.{textFrom, textAt, sound, dropBlanks, lastEnd, trimText, trimOf, trimmed, runText, runOf, wordOf}
 use Rattle.text.specs.Find.{findFrom, findAt, same, begins, stripOf}
-use Rattle.text.specs.Number.{allDigits, value, digitsOf, digitsAt, signOf, numberOf}
+use Rattle.numbers.specs.Number.{allDigits, value, digitsOf, digitsAt, signOf, numberOf}
 use Rattle.text.specs.Lines.{linesOf}
-use Rattle.descriptor.specs.Key.{geometryKey, keyOf}
-use Rattle.descriptor.specs.Kept.{keptAt, keptOf, unquotedOf}
-use Rattle.descriptor.specs.Extent.{secondOf, thirdOf, threeWords, fileNameOf, fileStartOf, flatLine, noAccessLine, extentLine}
-use Rattle.descriptor.specs.Line.{versionOf, geometryOf, geometryLine, valueOf, keyLine, accessWord, accessLine, textLine, lineOf}
+use Rattle.keys.specs.Key.{geometryKey, keyOf}
+use Rattle.lines.specs.Kept.{keptAt, keptOf, unquotedOf}
+use Rattle.lines.specs.Extent.{secondOf, thirdOf, threeWords, fileNameOf, fileStartOf, flatLine, noAccessLine, extentLine}
+use Rattle.lines.specs.Line.{versionOf, geometryOf, geometryLine, valueOf, keyLine, accessWord, accessLine, textLine, lineOf}
 use Rattle.descriptor.specs.Read.{setOf, sizesFrom, checked, readLines, readOf}
-use Rattle.descriptor.specs.Probe.{probeKey, probeLine, probeLines, probeOf}
-use Rattle.descriptor.specs.Record.{filled, counted}
-use Rattle.extents.specs.Build.{rowsFrom, buildOf}
-use Rattle.extents.specs.Map.{halve, sourced, inRow, searchOf, mapOf}
-use Rattle.extents.specs.Place.{sizeOf, placeFrom, placeOf}
-use Rattle.extents.specs.Walk.{walkFrom, walkOf}
+use Rattle.probing.specs.Probe.{probeKey, probeLine, probeLines, probeOf}
+use Rattle.lines.specs.Record.{filled, counted}
+use Rattle.tables.specs.Build.{rowsFrom, buildOf}
+use Rattle.maps.specs.Map.{halve, sourced, inRow, searchOf, mapOf}
+use Rattle.maps.specs.Place.{sizeOf, placeFrom, placeOf}
+use Rattle.walks.specs.Walk.{walkFrom, walkOf}
 use Rattle.theorems.specs.Maps.{restOf}
 use Rattle.theorems.specs.Tiling.{firstLocked, metFrom, metBy}
 use Rattle.theorems.specs.Cases.{Case, cases}

@@ -8,11 +8,11 @@ use mathlib.Core.Path.{_≡_, refl, _∙_}
 use lib.ListN.{length, getD, take}
 use lib.Dec.{ltb}
 use borrow.Author.Tests.{ltb-true, ltb-false, le-ltb, lt-ltb}
-use Rattle.descriptor.specs.Record.{noExtent}
-use Rattle.descriptor.specs.declared.record.VmdkParsedExtent.{VmdkParsedExtent}
-use Rattle.extents.specs.Place.{past, within, bytesIn, sizeOf, placeFrom}
+use Rattle.lines.specs.Record.{noExtent}
+use Rattle.lines.specs.declared.record.VmdkParsedExtent.{VmdkParsedExtent}
+use Rattle.maps.specs.Place.{past, within, bytesIn, sizeOf, placeFrom}
 use Rattle.theorems.specs.Maps.{restOf}
-use Rattle.text.proofs.Flat.{by-test}
+use Rattle.base.proofs.Flat.{by-test}
 
 -- byte o of extents numbered from i on lies in this one of them
 pub record Held (i : ℕ) (xs : List VmdkParsedExtent) (o : ℕ) : Type 0 where

@@ -10,38 +10,38 @@ use lib.ListN.{length, take, drop}
 use lib.Dec.{ltb}
 use Rattle.text.specs.Text.{textAt, sound, trimOf, trimmed}
 use Rattle.text.specs.Find.{findAt}
-use Rattle.text.specs.Number.{numberOf}
+use Rattle.numbers.specs.Number.{numberOf}
 use Rattle.text.specs.declared.words.Trimmed.{Trimmed}
 use Rattle.text.specs.declared.words.Trimmed.the-variants.{Range, Wrong}
 use Rattle.text.specs.declared.find.Place.{Place}
 use Rattle.text.specs.declared.find.Place.the-variants.{Here, Nowhere}
-use Rattle.text.specs.declared.number.Num.{Num}
-use Rattle.text.specs.declared.number.Num.the-variants.{Value, Bad}
-use Rattle.text.specs.declared.sector.Sectors.{Sectors}
-use Rattle.text.specs.declared.sector.SectorCount.{SectorCount}
-use Rattle.text.specs.declared.sector.SectorCount.the-variants.{Count as Sectors·Count, Bad as Sectors·Bad}
+use Rattle.numbers.specs.declared.number.Num.{Num}
+use Rattle.numbers.specs.declared.number.Num.the-variants.{Value, Bad}
+use Rattle.numbers.specs.declared.sector.Sectors.{Sectors}
+use Rattle.numbers.specs.declared.sector.SectorCount.{SectorCount}
+use Rattle.numbers.specs.declared.sector.SectorCount.the-variants.{Count as Sectors·Count, Bad as Sectors·Bad}
 use Rattle.text.proofs.Trims.{trim-wrong}
-use Rattle.text.proofs.Flat.{pick-all}
-use Rattle.descriptor.specs.Key.{keyOf}
-use Rattle.descriptor.specs.Kept.{keptOf}
-use Rattle.descriptor.specs.Extent.{part, secondOf, thirdOf, threeWords, betweenQuotes, afterQuote, fileNameOf, fileStartOf, flatFrom, flatBy, flatLine, noAccessBy, noAccessLine, byThird, bySecond, extentLine}
-use Rattle.descriptor.specs.Line.{versionLimit, versionBy, versionOf, geometryOf, geometryBy, geometryLine, valueOf, keyBy, keyLine, accessWord, accessLine, firstBlank, skipped, textLine, trimmedLine, lineOf}
-use Rattle.descriptor.specs.declared.key.Key.{Key}
-use Rattle.descriptor.specs.declared.key.Key.the-variants.{Version, Cid, ParentCid, CreateType, ParentFileNameHint, Geometry as Geometry·Key, Ddb, Unknown}
-use Rattle.descriptor.specs.declared.key.Geometry.{Geometry}
-use Rattle.descriptor.specs.declared.extent.Second.{Second}
-use Rattle.descriptor.specs.declared.extent.Second.the-variants.{Count, Bad as Second·Bad}
-use Rattle.descriptor.specs.declared.extent.Third.{Third}
-use Rattle.descriptor.specs.declared.extent.Third.the-variants.{Missing, Zero, Flat, Unsupported}
-use Rattle.descriptor.specs.declared.extent.FileName.{FileName}
-use Rattle.descriptor.specs.declared.extent.FileName.the-variants.{Name, Refused as NameRefused}
-use Rattle.descriptor.specs.declared.line.Said.{Said}
-use Rattle.descriptor.specs.declared.line.Said.the-variants.{Nothing, Extent, Set, Refused}
-use Rattle.descriptor.specs.declared.line.AccessWord.{AccessWord}
-use Rattle.descriptor.specs.declared.line.AccessWord.the-variants.{NoAccess, RdOnly, RW, Other}
-use Rattle.descriptor.specs.declared.record.VmdkAccessType.{VmdkAccessType}
-use Rattle.descriptor.specs.declared.record.VmdkAccessType.the-variants.{RdOnly as ReadOnly, RW as ReadWrite}
-use Rattle.descriptor.specs.declared.record.VmdkParsedStorage.{VmdkParsedStorage}
+use Rattle.base.proofs.Flat.{pick-all}
+use Rattle.keys.specs.Key.{keyOf}
+use Rattle.lines.specs.Kept.{keptOf}
+use Rattle.lines.specs.Extent.{part, secondOf, thirdOf, threeWords, betweenQuotes, afterQuote, fileNameOf, fileStartOf, flatFrom, flatBy, flatLine, noAccessBy, noAccessLine, byThird, bySecond, extentLine}
+use Rattle.lines.specs.Line.{versionLimit, versionBy, versionOf, geometryOf, geometryBy, geometryLine, valueOf, keyBy, keyLine, accessWord, accessLine, firstBlank, skipped, textLine, trimmedLine, lineOf}
+use Rattle.keys.specs.declared.key.Key.{Key}
+use Rattle.keys.specs.declared.key.Key.the-variants.{Version, Cid, ParentCid, CreateType, ParentFileNameHint, Geometry as Geometry·Key, Ddb, Unknown}
+use Rattle.keys.specs.declared.key.Geometry.{Geometry}
+use Rattle.lines.specs.declared.extent.Second.{Second}
+use Rattle.lines.specs.declared.extent.Second.the-variants.{Count, Bad as Second·Bad}
+use Rattle.lines.specs.declared.extent.Third.{Third}
+use Rattle.lines.specs.declared.extent.Third.the-variants.{Missing, Zero, Flat, Unsupported}
+use Rattle.lines.specs.declared.extent.FileName.{FileName}
+use Rattle.lines.specs.declared.extent.FileName.the-variants.{Name, Refused as NameRefused}
+use Rattle.lines.specs.declared.line.Said.{Said}
+use Rattle.lines.specs.declared.line.Said.the-variants.{Nothing, Extent, Set, Refused}
+use Rattle.lines.specs.declared.line.AccessWord.{AccessWord}
+use Rattle.lines.specs.declared.line.AccessWord.the-variants.{NoAccess, RdOnly, RW, Other}
+use Rattle.lines.specs.declared.record.VmdkAccessType.{VmdkAccessType}
+use Rattle.lines.specs.declared.record.VmdkAccessType.the-variants.{RdOnly as ReadOnly, RW as ReadWrite}
+use Rattle.lines.specs.declared.record.VmdkParsedStorage.{VmdkParsedStorage}
 
 -- what a line with a key says: no extent, and its refusals are 12 to 15
 abbrev pub OfKey : Said → Type 0

@@ -6,20 +6,20 @@ use mathlib.Core.List.{List, [], _∷_, _++_}
 use mathlib.Core.Path.{_≡_, refl}
 use lib.ListN.{length}
 use lib.Dec.{ltb}
-use Rattle.text.specs.Ranges.{within}
+use Rattle.base.specs.Ranges.{within}
 use Rattle.text.specs.Find.{begins}
 use Rattle.text.specs.Lines.{linesOf}
-use Rattle.text.proofs.Flat.{pick-all}
-use Rattle.descriptor.specs.Record.{most, noDesc, noRecord}
-use Rattle.descriptor.specs.Line.{lineOf}
-use Rattle.descriptor.specs.Read.{leastBytes, mostBytes, sparse, answer, refusedRead, setOf, sizesFrom, checked, byLine, readLines, readOf}
-use Rattle.descriptor.specs.declared.line.Said.{Said}
-use Rattle.descriptor.specs.declared.line.Said.the-variants.{Nothing, Extent, Set, Refused}
-use Rattle.descriptor.specs.declared.record.Refusal.{Refusal}
-use Rattle.descriptor.specs.declared.record.Verdict.{Verdict}
-use Rattle.descriptor.specs.declared.record.Verdict.the-variants.{Sound, Refused as Stopped}
-use Rattle.descriptor.specs.declared.record.VmdkDesc.{VmdkDesc}
-use Rattle.descriptor.specs.declared.record.VmdkParsedExtent.{VmdkParsedExtent}
+use Rattle.base.proofs.Flat.{pick-all}
+use Rattle.lines.specs.Record.{most, mostBytes, noDesc, noRecord}
+use Rattle.lines.specs.Line.{lineOf}
+use Rattle.descriptor.specs.Read.{leastBytes, sparse, answer, refusedRead, setOf, sizesFrom, checked, byLine, readLines, readOf}
+use Rattle.lines.specs.declared.line.Said.{Said}
+use Rattle.lines.specs.declared.line.Said.the-variants.{Nothing, Extent, Set, Refused}
+use Rattle.lines.specs.declared.record.Refusal.{Refusal}
+use Rattle.lines.specs.declared.record.Verdict.{Verdict}
+use Rattle.lines.specs.declared.record.Verdict.the-variants.{Sound, Refused as Stopped}
+use Rattle.lines.specs.declared.record.VmdkDesc.{VmdkDesc}
+use Rattle.lines.specs.declared.record.VmdkParsedExtent.{VmdkParsedExtent}
 use Rattle.descriptor.specs.declared.read.Read.{Read}
 
 -- if it is refused, its record is empty

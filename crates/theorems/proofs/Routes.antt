@@ -10,25 +10,25 @@ use mathlib.Core.Path.{_≡_, refl, sym, ap, _∙_, subst}
 use lib.ListN.{length}
 use lib.Dec.{leb, eqb}
 use borrow.Author.Tests.{le-leb, lt-leb, leb-true, leb-false, lt-ltb, le-ltb, eq-eqb, ne-eqb, eqb-true, eqb-false}
-use Rattle.text.specs.Sector.{largest, sectorSize}
-use Rattle.text.specs.declared.sector.Sectors.{Sectors}
-use Rattle.descriptor.specs.declared.record.Text.{Text}
-use Rattle.descriptor.specs.declared.record.VmdkAccessType.{VmdkAccessType}
-use Rattle.descriptor.specs.declared.record.VmdkParsedExtent.{VmdkParsedExtent}
-use Rattle.descriptor.specs.declared.record.VmdkParsedStorage.{VmdkParsedStorage}
-use Rattle.descriptor.specs.declared.record.VmdkParsedStorage.the-variants.{NoAccess, Zero, Flat}
-use Rattle.extents.specs.declared.table.Table.{Table}
-use Rattle.extents.specs.declared.table.Mapping.{Mapping}
-use Rattle.extents.specs.declared.table.Piece.{Piece}
-use Rattle.extents.specs.declared.table.ShallowMapping.the-variants.{Zero as Zeroed, Raw, Refused}
-use Rattle.extents.specs.declared.table.Stop.{Stop}
-use Rattle.extents.specs.declared.table.Stop.the-variants.{Done, More, Refused as Stopped}
-use Rattle.extents.specs.Map.{writable, mapOf}
-use Rattle.extents.specs.Place.{within, bytesIn, sizeOf, placeFrom, placeOf, Reaches, Reachable}
-use Rattle.extents.specs.Walk.{Walk, ends, then, zeroPiece, rawPiece, step, walkFrom}
+use Rattle.numbers.specs.Sector.{largest, sectorSize}
+use Rattle.numbers.specs.declared.sector.Sectors.{Sectors}
+use Rattle.lines.specs.declared.record.Text.{Text}
+use Rattle.lines.specs.declared.record.VmdkAccessType.{VmdkAccessType}
+use Rattle.lines.specs.declared.record.VmdkParsedExtent.{VmdkParsedExtent}
+use Rattle.lines.specs.declared.record.VmdkParsedStorage.{VmdkParsedStorage}
+use Rattle.lines.specs.declared.record.VmdkParsedStorage.the-variants.{NoAccess, Zero, Flat}
+use Rattle.tables.specs.declared.table.Table.{Table}
+use Rattle.tables.specs.declared.table.Mapping.{Mapping}
+use Rattle.tables.specs.declared.table.Piece.{Piece}
+use Rattle.tables.specs.declared.table.ShallowMapping.the-variants.{Zero as Zeroed, Raw, Refused}
+use Rattle.tables.specs.declared.table.Stop.{Stop}
+use Rattle.tables.specs.declared.table.Stop.the-variants.{Done, More, Refused as Stopped}
+use Rattle.maps.specs.Map.{writable, mapOf}
+use Rattle.maps.specs.Place.{within, bytesIn, sizeOf, placeFrom, placeOf, Reaches, Reachable}
+use Rattle.walks.specs.Walk.{Walk, ends, then, zeroPiece, rawPiece, step, walkFrom}
 use Rattle.theorems.specs.Maps.{restOf, shown, runAt, MapsBy}
 use Rattle.theorems.specs.Tiling.{ZeroPlain, readable, byteOf}
-use Rattle.text.proofs.Flat.{by-test, pick-same}
+use Rattle.base.proofs.Flat.{by-test, pick-same}
 
 -- the piece of extent i from a position up to a place; the extent begins at a place of the disk
 pub record PieceOf (x : VmdkParsedExtent) (i begin pos upto : ℕ) (p : Piece) : Type 0 where

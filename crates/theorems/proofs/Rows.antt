@@ -9,16 +9,16 @@ use mathlib.Core.Path.{_≡_, refl, sym, ap, _∙_, subst}
 use lib.ListN.{length, getD, take, List·getD-eq-default}
 use lib.Dec.{leb}
 use borrow.Author.Tests.{le-leb, leb-true, ltb-true, lt-ltb}
-use Rattle.descriptor.specs.Record.{most, counted, noExtent}
-use Rattle.descriptor.specs.declared.record.Record.{Record}
-use Rattle.descriptor.specs.declared.record.VmdkParsedExtent.{VmdkParsedExtent}
-use Rattle.extents.specs.declared.table.Row.{Row}
-use Rattle.extents.specs.declared.table.Table.{Table}
-use Rattle.extents.specs.Build.{noRow}
-use Rattle.extents.specs.Map.{holds}
-use Rattle.extents.specs.Place.{bytesIn, sizeOf}
+use Rattle.lines.specs.Record.{most, counted, noExtent}
+use Rattle.lines.specs.declared.record.Record.{Record}
+use Rattle.lines.specs.declared.record.VmdkParsedExtent.{VmdkParsedExtent}
+use Rattle.tables.specs.declared.table.Row.{Row}
+use Rattle.tables.specs.declared.table.Table.{Table}
+use Rattle.tables.specs.Build.{noRow}
+use Rattle.maps.specs.Map.{holds}
+use Rattle.maps.specs.Place.{bytesIn, sizeOf}
 use Rattle.theorems.specs.Rows.{Builds, rowAt, OneRow, InRows}
-use Rattle.text.proofs.Flat.{by-test}
+use Rattle.base.proofs.Flat.{by-test}
 use Rattle.theorems.proofs.Orders.{three-ways}
 use Rattle.theorems.proofs.Built.{tableIn, laid, rowOf, table-laid, length-laid, row-laid, filled-at, size-next, size-grows, size-all}
 use Rattle.theorems.proofs.Places.{Held, held}

@@ -8,22 +8,22 @@ use mathlib.Core.Path.{_≡_, refl, sym, ap, subst, _∙_}
 use lib.ListN.{length, length-append}
 use lib.Dec.{leb, ltb}
 use borrow.Author.Tests.{lt-ltb, le-ltb, ltb-true, ltb-false}
-use Rattle.text.specs.Ranges.{within}
-use Rattle.text.specs.Sector.{bytesOf, largest}
-use Rattle.text.specs.declared.sector.ByteCount.{ByteCount}
-use Rattle.text.specs.declared.sector.ByteCount.the-variants.{Count, TooLarge}
-use Rattle.text.proofs.Flat.{by-test, pick-all}
-use Rattle.descriptor.specs.Record.{most, refusal}
-use Rattle.descriptor.specs.Line.{lineOf}
+use Rattle.base.specs.Ranges.{within}
+use Rattle.numbers.specs.Sector.{bytesOf, largest}
+use Rattle.numbers.specs.declared.sector.ByteCount.{ByteCount}
+use Rattle.numbers.specs.declared.sector.ByteCount.the-variants.{Count, TooLarge}
+use Rattle.base.proofs.Flat.{by-test, pick-all}
+use Rattle.lines.specs.Record.{most, refusal}
+use Rattle.lines.specs.Line.{lineOf}
 use Rattle.descriptor.specs.Read.{answer, setOf, summed, sizesFrom, checked, byLine, readLines}
 use Rattle.theorems.specs.Statements.{placeAfter, sayings, extentsIn, refuses, RefusedWith}
-use Rattle.descriptor.specs.declared.line.Said.{Said}
-use Rattle.descriptor.specs.declared.line.Said.the-variants.{Nothing, Extent, Set, Refused}
-use Rattle.descriptor.specs.declared.record.Refusal.{Refusal}
-use Rattle.descriptor.specs.declared.record.Verdict.{Verdict}
-use Rattle.descriptor.specs.declared.record.Verdict.the-variants.{Sound, Refused as Stopped}
-use Rattle.descriptor.specs.declared.record.VmdkDesc.{VmdkDesc}
-use Rattle.descriptor.specs.declared.record.VmdkParsedExtent.{VmdkParsedExtent}
+use Rattle.lines.specs.declared.line.Said.{Said}
+use Rattle.lines.specs.declared.line.Said.the-variants.{Nothing, Extent, Set, Refused}
+use Rattle.lines.specs.declared.record.Refusal.{Refusal}
+use Rattle.lines.specs.declared.record.Verdict.{Verdict}
+use Rattle.lines.specs.declared.record.Verdict.the-variants.{Sound, Refused as Stopped}
+use Rattle.lines.specs.declared.record.VmdkDesc.{VmdkDesc}
+use Rattle.lines.specs.declared.record.VmdkParsedExtent.{VmdkParsedExtent}
 use Rattle.descriptor.specs.declared.read.Read.{Read}
 use Rattle.theorems.proofs.RefusalNumbers.{line-number}
 

@@ -10,12 +10,12 @@ use mathlib.Core.Path.{_≡_, refl, sym, ap, _∙_}
 use mathlib.Core.Logic.{⊎-elim}
 use lib.Dec.{ltb}
 use borrow.Author.Tests.{ltb-true, ltb-false, lt-ltb}
-use Rattle.descriptor.specs.declared.record.VmdkParsedExtent.{VmdkParsedExtent}
-use Rattle.descriptor.specs.declared.record.VmdkParsedStorage.{VmdkParsedStorage}
-use Rattle.descriptor.specs.declared.record.VmdkParsedStorage.the-variants.{NoAccess, Zero, Flat}
-use Rattle.extents.specs.Place.{within, bytesIn, placeFrom, placeOf, past}
+use Rattle.lines.specs.declared.record.VmdkParsedExtent.{VmdkParsedExtent}
+use Rattle.lines.specs.declared.record.VmdkParsedStorage.{VmdkParsedStorage}
+use Rattle.lines.specs.declared.record.VmdkParsedStorage.the-variants.{NoAccess, Zero, Flat}
+use Rattle.maps.specs.Place.{within, bytesIn, placeFrom, placeOf, past}
 use Rattle.theorems.specs.Tiling.{isLocked, readable, numberOf, shares, metFrom, metBy, ReadsIn, Rise, Met}
-use Rattle.text.proofs.Flat.{by-test}
+use Rattle.base.proofs.Flat.{by-test}
 use Rattle.theorems.proofs.Routes.{place-here, place-next}
 use Rattle.theorems.proofs.Tiles.{reads-free}
 

@@ -3,15 +3,15 @@
 use Prim.Native.Nat.{ℕ, _<_, _≤_}
 use mathlib.Core.List.{List, map}
 use mathlib.Core.Path.{_≡_, sym, subst}
-use Rattle.descriptor.specs.Record.{most, counted}
+use Rattle.lines.specs.Record.{most, counted}
 use Rattle.descriptor.specs.Read.{readOf}
 use Rattle.theorems.specs.Statements.{sayingsOf, extentsIn}
-use Rattle.descriptor.specs.declared.record.Verdict.the-variants.{Sound}
-use Rattle.descriptor.specs.declared.record.Record.{Record}
-use Rattle.descriptor.specs.declared.record.VmdkParsedExtent.{VmdkParsedExtent}
-use Rattle.extents.specs.declared.table.Table.{Table}
-use Rattle.extents.specs.Place.{Reachable}
-use Rattle.extents.specs.Walk.{walkOf}
+use Rattle.lines.specs.declared.record.Verdict.the-variants.{Sound}
+use Rattle.lines.specs.declared.record.Record.{Record}
+use Rattle.lines.specs.declared.record.VmdkParsedExtent.{VmdkParsedExtent}
+use Rattle.tables.specs.declared.table.Table.{Table}
+use Rattle.maps.specs.Place.{Reachable}
+use Rattle.walks.specs.Walk.{walkOf}
 use Rattle.theorems.proofs.TheoremsOfReading.{extents-in-order}
 use Rattle.theorems.specs.Rows.{Builds, InRows}
 use Rattle.theorems.specs.Looks.{Finds, FewLooks}

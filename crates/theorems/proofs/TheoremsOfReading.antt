@@ -6,21 +6,21 @@ use mathlib.Core.Logic.{_↔_}
 use mathlib.Core.Bool.{true, false}
 use mathlib.Core.Path.{_≡_, sym, _∙_}
 use lib.ListN.{length}
-use Rattle.text.specs.Ranges.{within}
+use Rattle.base.specs.Ranges.{within}
 use Rattle.text.specs.Text.{textAt, sound, trimmed}
-use Rattle.text.specs.declared.sector.Sectors.{Sectors}
-use Rattle.descriptor.specs.Record.{most, noRecord, counted, refusal}
-use Rattle.descriptor.specs.Line.{lineOf}
+use Rattle.numbers.specs.declared.sector.Sectors.{Sectors}
+use Rattle.lines.specs.Record.{most, noRecord, counted, refusal}
+use Rattle.lines.specs.Line.{lineOf}
 use Rattle.descriptor.specs.Read.{readOf}
-use Rattle.descriptor.specs.Probe.{probeOf}
+use Rattle.probing.specs.Probe.{probeOf}
 use Rattle.theorems.specs.Statements.{ByLine, sayingsOf, extentsIn, AllSound, firstVersion, lastVersion, LineAt, FirstRefused, Quotes, textIn, ExtentIn}
-use Rattle.descriptor.specs.declared.line.Said.the-variants.{Extent}
-use Rattle.descriptor.specs.declared.record.Text.{Text}
-use Rattle.descriptor.specs.declared.record.Refusal.{Refusal}
-use Rattle.descriptor.specs.declared.record.Verdict.the-variants.{Sound, Refused}
-use Rattle.descriptor.specs.declared.record.VmdkAccessType.{VmdkAccessType}
-use Rattle.descriptor.specs.declared.record.VmdkParsedStorage.the-variants.{Flat}
-use Rattle.descriptor.specs.declared.record.VmdkParsedExtent.{VmdkParsedExtent}
+use Rattle.lines.specs.declared.line.Said.the-variants.{Extent}
+use Rattle.lines.specs.declared.record.Text.{Text}
+use Rattle.lines.specs.declared.record.Refusal.{Refusal}
+use Rattle.lines.specs.declared.record.Verdict.the-variants.{Sound, Refused}
+use Rattle.lines.specs.declared.record.VmdkAccessType.{VmdkAccessType}
+use Rattle.lines.specs.declared.record.VmdkParsedStorage.the-variants.{Flat}
+use Rattle.lines.specs.declared.record.VmdkParsedExtent.{VmdkParsedExtent}
 use Rattle.theorems.proofs.Refusals.{emptied}
 use Rattle.theorems.proofs.Verdicts.{line-refused, line-no-text, accepted-lines, accepted-extents}
 use Rattle.theorems.proofs.Versions.{probe-accepted, last-accepted, probe-refused}

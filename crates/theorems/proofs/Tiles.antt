@@ -9,15 +9,15 @@ use mathlib.Core.Path.{_≡_, refl, sym, _∙_, subst}
 use mathlib.Core.Logic.{_⊎_, inl, inr}
 use lib.Dec.{ltb}
 use borrow.Author.Tests.{ltb-true, ltb-false, lt-ltb, le-ltb}
-use Rattle.descriptor.specs.declared.record.VmdkParsedExtent.{VmdkParsedExtent}
-use Rattle.descriptor.specs.declared.record.VmdkParsedStorage.{VmdkParsedStorage}
-use Rattle.descriptor.specs.declared.record.VmdkParsedStorage.the-variants.{NoAccess, Zero, Flat}
-use Rattle.extents.specs.declared.table.Piece.{Piece}
-use Rattle.extents.specs.declared.table.Stop.{Stop}
-use Rattle.extents.specs.declared.table.Stop.the-variants.{Done, Refused as Stopped}
-use Rattle.extents.specs.Place.{within, bytesIn, sizeOf, placeFrom}
+use Rattle.lines.specs.declared.record.VmdkParsedExtent.{VmdkParsedExtent}
+use Rattle.lines.specs.declared.record.VmdkParsedStorage.{VmdkParsedStorage}
+use Rattle.lines.specs.declared.record.VmdkParsedStorage.the-variants.{NoAccess, Zero, Flat}
+use Rattle.tables.specs.declared.table.Piece.{Piece}
+use Rattle.tables.specs.declared.table.Stop.{Stop}
+use Rattle.tables.specs.declared.table.Stop.the-variants.{Done, Refused as Stopped}
+use Rattle.maps.specs.Place.{within, bytesIn, sizeOf, placeFrom}
 use Rattle.theorems.specs.Tiling.{rowsOf, ZeroPlain, All, Follow, isLocked, readable, byteOf, metFrom}
-use Rattle.text.proofs.Flat.{by-test, pick-same}
+use Rattle.base.proofs.Flat.{by-test, pick-same}
 use Rattle.theorems.proofs.Routes.{PieceOf, Route, over, done, pass, shut, piece, place-here, place-next}
 
 pub all-map : {A : Type 0} (P Q : A → Type 0) → ((a : A) → P a → Q a) → (l : List A) → All P l → All Q l

@@ -7,13 +7,13 @@ use mathlib.Core.List.{List}
 use mathlib.Core.Path.{_≡_, refl, sym, subst}
 use lib.ListN.{length}
 use borrow.Author.Tests.{le-leb}
-use Rattle.descriptor.specs.Record.{most, counted}
-use Rattle.descriptor.specs.declared.record.Record.{Record}
-use Rattle.descriptor.specs.declared.record.VmdkParsedExtent.{VmdkParsedExtent}
-use Rattle.extents.specs.declared.table.Table.{Table}
-use Rattle.extents.specs.declared.table.Piece.{Piece}
-use Rattle.extents.specs.Place.{placeOf, Reachable}
-use Rattle.extents.specs.Walk.{Walk, walkFrom, walkOf}
+use Rattle.lines.specs.Record.{most, counted}
+use Rattle.lines.specs.declared.record.Record.{Record}
+use Rattle.lines.specs.declared.record.VmdkParsedExtent.{VmdkParsedExtent}
+use Rattle.tables.specs.declared.table.Table.{Table}
+use Rattle.tables.specs.declared.table.Piece.{Piece}
+use Rattle.maps.specs.Place.{placeOf, Reachable}
+use Rattle.walks.specs.Walk.{Walk, walkFrom, walkOf}
 use Rattle.theorems.specs.Rows.{Builds}
 use Rattle.theorems.specs.Tiling.{Placed, Rise, metBy, Tiles}
 use Rattle.theorems.proofs.Built.{tableIn, table-laid, length-laid}

@@ -10,21 +10,21 @@ use lib.ListN.{length, replicate}
 use lib.Seq.{take-append-seam}
 use lib.Dec.{ltb}
 use borrow.Author.Tests.{le-ltb, ltb-false}
-use Rattle.text.specs.Ranges.{within}
+use Rattle.base.specs.Ranges.{within}
 use Rattle.text.specs.Find.{begins}
 use Rattle.text.specs.Lines.{linesOf}
 use Rattle.text.specs.Text.{textAt, sound}
-use Rattle.text.proofs.Flat.{by-test}
-use Rattle.descriptor.specs.Record.{most, noExtent, noDesc, filled, recordOf, counted, refusal}
-use Rattle.descriptor.specs.Line.{lineOf}
-use Rattle.descriptor.specs.Read.{leastBytes, mostBytes, sparse, answer, sizesFrom, checked, readLines, readOf}
+use Rattle.base.proofs.Flat.{by-test}
+use Rattle.lines.specs.Record.{most, mostBytes, noExtent, noDesc, filled, recordOf, counted, refusal}
+use Rattle.lines.specs.Line.{lineOf}
+use Rattle.descriptor.specs.Read.{leastBytes, sparse, answer, sizesFrom, checked, readLines, readOf}
 use Rattle.theorems.specs.Statements.{ByLine, placeAfter, sayings, sayingsOf, extentsIn, AllSound, RefusedWith, FirstRefused}
-use Rattle.descriptor.specs.declared.line.Said.{Said}
-use Rattle.descriptor.specs.declared.line.Said.the-variants.{Nothing, Extent, Set, Refused}
-use Rattle.descriptor.specs.declared.record.Verdict.{Verdict}
-use Rattle.descriptor.specs.declared.record.Verdict.the-variants.{Sound, Refused as Stopped}
-use Rattle.descriptor.specs.declared.record.VmdkDesc.{VmdkDesc}
-use Rattle.descriptor.specs.declared.record.VmdkParsedExtent.{VmdkParsedExtent}
+use Rattle.lines.specs.declared.line.Said.{Said}
+use Rattle.lines.specs.declared.line.Said.the-variants.{Nothing, Extent, Set, Refused}
+use Rattle.lines.specs.declared.record.Verdict.{Verdict}
+use Rattle.lines.specs.declared.record.Verdict.the-variants.{Sound, Refused as Stopped}
+use Rattle.lines.specs.declared.record.VmdkDesc.{VmdkDesc}
+use Rattle.lines.specs.declared.record.VmdkParsedExtent.{VmdkParsedExtent}
 use Rattle.descriptor.specs.declared.read.Read.{Read}
 use Rattle.theorems.proofs.RefusalNumbers.{four}
 use Rattle.theorems.proofs.Sayings.{From, setAll, Stops, never, stopped, stops, all-sound, after-all}

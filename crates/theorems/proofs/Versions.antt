@@ -10,42 +10,43 @@ use lib.ListN.{length, take, drop}
 use lib.Dec.{eqb, ltb}
 use lib.Seq.{take-append-seam, drop-append-add}
 use borrow.Author.Tests.{ne-eqb, le-ltb}
-use Rattle.text.specs.Ranges.{pick, within}
-use Rattle.text.specs.Blank.{blank}
+use Rattle.base.specs.Ranges.{pick, within}
+use Rattle.unicode.specs.Blank.{blank}
 use Rattle.text.specs.Find.{findAt, same, begins}
 use Rattle.text.specs.Lines.{count, linesOf}
 use Rattle.text.specs.Text.{trimOf, trimmed}
 use Rattle.theorems.specs.Unicode.{scalars, encodeAll}
-use Rattle.text.specs.Number.{numberOf}
+use Rattle.numbers.specs.Number.{numberOf}
 use Rattle.text.specs.declared.words.Trimmed.{Trimmed}
 use Rattle.text.specs.declared.words.Trimmed.the-variants.{Range, Wrong}
 use Rattle.text.specs.declared.find.Place.the-variants.{Here}
-use Rattle.text.specs.declared.number.Num.{Num}
-use Rattle.text.specs.declared.number.Num.the-variants.{Value, Bad}
-use Rattle.text.proofs.Flat.{by-test, pick-all}
+use Rattle.numbers.specs.declared.number.Num.{Num}
+use Rattle.numbers.specs.declared.number.Num.the-variants.{Value, Bad}
+use Rattle.base.proofs.Flat.{by-test, pick-all}
 use Rattle.text.proofs.Finds.{same-is}
-use Rattle.descriptor.specs.Record.{noDesc, refusal}
-use Rattle.descriptor.specs.Key.{ascii, keyOf, geometryKey}
-use Rattle.descriptor.specs.Extent.{part, noAccessLine, extentLine}
-use Rattle.descriptor.specs.Line.{versionLimit, versionBy, versionOf, geometryOf, geometryBy, geometryLine, valueOf, keyLine, accessWord, accessLine, firstBlank, skipped, textLine, lineOf}
-use Rattle.descriptor.specs.Read.{leastBytes, mostBytes, setOf, sizesFrom, checked, readOf}
-use Rattle.descriptor.specs.Probe.{verdictOf, probeKey, probeLine, firstAnswer, probeLines, probeOf}
+use Rattle.lines.specs.Record.{mostBytes, noDesc, refusal}
+use Rattle.base.specs.Ascii.{ascii}
+use Rattle.keys.specs.Key.{keyOf, geometryKey}
+use Rattle.lines.specs.Extent.{part, noAccessLine, extentLine}
+use Rattle.lines.specs.Line.{versionLimit, versionBy, versionOf, geometryOf, geometryBy, geometryLine, valueOf, keyLine, accessWord, accessLine, firstBlank, skipped, textLine, lineOf}
+use Rattle.descriptor.specs.Read.{leastBytes, setOf, sizesFrom, checked, readOf}
+use Rattle.probing.specs.Probe.{verdictOf, probeKey, probeLine, firstAnswer, probeLines, probeOf}
 use Rattle.theorems.specs.Statements.{ByLine, sayings, sayingsOf, extentsIn, refuses, AllSound, firstVersion, versionAfter, lastVersion}
-use Rattle.descriptor.specs.declared.key.Key.{Key}
-use Rattle.descriptor.specs.declared.key.Key.the-variants.{Version, Cid, ParentCid, CreateType, ParentFileNameHint, Geometry as Geometry·Key, Ddb, Unknown}
-use Rattle.descriptor.specs.declared.key.Geometry.{Geometry}
-use Rattle.descriptor.specs.declared.key.Geometry.the-variants.{Sectors, Heads, Cylinders}
-use Rattle.descriptor.specs.declared.line.Setting.the-variants.{Version as Is·Version, Cid as Is·Cid, ParentCid as Is·ParentCid, CreateType as Is·CreateType, Sectors as Is·Sectors, Heads as Is·Heads, Cylinders as Is·Cylinders}
-use Rattle.descriptor.specs.declared.line.Said.{Said}
-use Rattle.descriptor.specs.declared.line.Said.the-variants.{Nothing, Extent, Set, Refused}
-use Rattle.descriptor.specs.declared.line.AccessWord.{AccessWord}
-use Rattle.descriptor.specs.declared.line.AccessWord.the-variants.{NoAccess, RdOnly, RW, Other}
-use Rattle.descriptor.specs.declared.record.VmdkAccessType.the-variants.{RdOnly as ReadOnly, RW as ReadWrite}
-use Rattle.descriptor.specs.declared.probe.Probed.{Probed}
-use Rattle.descriptor.specs.declared.probe.Probed.the-variants.{Pass, Answer}
-use Rattle.descriptor.specs.declared.record.Verdict.the-variants.{Sound}
-use Rattle.descriptor.specs.declared.record.VmdkDesc.{VmdkDesc}
-use Rattle.descriptor.specs.declared.record.VmdkParsedExtent.{VmdkParsedExtent}
+use Rattle.keys.specs.declared.key.Key.{Key}
+use Rattle.keys.specs.declared.key.Key.the-variants.{Version, Cid, ParentCid, CreateType, ParentFileNameHint, Geometry as Geometry·Key, Ddb, Unknown}
+use Rattle.keys.specs.declared.key.Geometry.{Geometry}
+use Rattle.keys.specs.declared.key.Geometry.the-variants.{Sectors, Heads, Cylinders}
+use Rattle.lines.specs.declared.line.Setting.the-variants.{Version as Is·Version, Cid as Is·Cid, ParentCid as Is·ParentCid, CreateType as Is·CreateType, Sectors as Is·Sectors, Heads as Is·Heads, Cylinders as Is·Cylinders}
+use Rattle.lines.specs.declared.line.Said.{Said}
+use Rattle.lines.specs.declared.line.Said.the-variants.{Nothing, Extent, Set, Refused}
+use Rattle.lines.specs.declared.line.AccessWord.{AccessWord}
+use Rattle.lines.specs.declared.line.AccessWord.the-variants.{NoAccess, RdOnly, RW, Other}
+use Rattle.lines.specs.declared.record.VmdkAccessType.the-variants.{RdOnly as ReadOnly, RW as ReadWrite}
+use Rattle.probing.specs.declared.probe.Probed.{Probed}
+use Rattle.probing.specs.declared.probe.Probed.the-variants.{Pass, Answer}
+use Rattle.lines.specs.declared.record.Verdict.the-variants.{Sound}
+use Rattle.lines.specs.declared.record.VmdkDesc.{VmdkDesc}
+use Rattle.lines.specs.declared.record.VmdkParsedExtent.{VmdkParsedExtent}
 use Rattle.descriptor.specs.declared.read.Read.{Read}
 use Rattle.theorems.proofs.RefusalNumbers.{OfExtent, extent-locked-line, extent-line}
 use Rattle.theorems.proofs.Trimming.{Trimming, trim-front, trim-back, first-byte, encode-append, encode-cut, scalars-split, cut-at, blanks-free, count-append, find-none, find-behind}

@@ -3,27 +3,27 @@ use Prim.Native.Nat.{ℕ}
 use Prim.Native.String.{String}
 use mathlib.Core.List.{List, [], _∷_, _++_}
 use mathlib.Core.Bool.{Bool, true, false}
-use Rattle.descriptor.specs.Key.{ascii}
-use Rattle.descriptor.specs.Probe.{probeOf}
+use Rattle.base.specs.Ascii.{ascii}
+use Rattle.probing.specs.Probe.{probeOf}
 use Rattle.descriptor.specs.Read.{readOf}
-use Rattle.descriptor.specs.Record.{noText, noExtent, noDesc, descOf, filled, recordOf, refusal}
-use Rattle.descriptor.specs.declared.record.Record.{Record}
-use Rattle.descriptor.specs.declared.record.Verdict.{Verdict}
-use Rattle.descriptor.specs.declared.record.Verdict.the-variants.{Sound}
-use Rattle.descriptor.specs.declared.record.VmdkAccessType.the-variants.{RW, RdOnly}
-use Rattle.descriptor.specs.declared.record.VmdkParsedExtent.{VmdkParsedExtent}
-use Rattle.descriptor.specs.declared.record.VmdkParsedStorage.{VmdkParsedStorage}
-use Rattle.descriptor.specs.declared.record.VmdkParsedStorage.the-variants.{NoAccess, Zero, Flat}
-use Rattle.extents.specs.declared.table.Table.{Table}
-use Rattle.extents.specs.declared.table.Mapping.{Mapping}
-use Rattle.extents.specs.declared.table.ShallowMapping.{ShallowMapping}
-use Rattle.extents.specs.declared.table.ShallowMapping.the-variants.{Eof, Zero as Zeros, Raw, Refused}
-use Rattle.extents.specs.declared.table.Stop.{Stop}
-use Rattle.extents.specs.declared.table.Stop.the-variants.{Done, Refused as Stopped}
-use Rattle.extents.specs.declared.table.Piece.{Piece}
-use Rattle.extents.specs.Build.{noRow, buildOf}
-use Rattle.extents.specs.Map.{mapOf}
-use Rattle.extents.specs.Walk.{Walk, zeroPiece, rawPiece, walkOf}
+use Rattle.lines.specs.Record.{noText, noExtent, noDesc, descOf, filled, recordOf, refusal}
+use Rattle.lines.specs.declared.record.Record.{Record}
+use Rattle.lines.specs.declared.record.Verdict.{Verdict}
+use Rattle.lines.specs.declared.record.Verdict.the-variants.{Sound}
+use Rattle.lines.specs.declared.record.VmdkAccessType.the-variants.{RW, RdOnly}
+use Rattle.lines.specs.declared.record.VmdkParsedExtent.{VmdkParsedExtent}
+use Rattle.lines.specs.declared.record.VmdkParsedStorage.{VmdkParsedStorage}
+use Rattle.lines.specs.declared.record.VmdkParsedStorage.the-variants.{NoAccess, Zero, Flat}
+use Rattle.tables.specs.declared.table.Table.{Table}
+use Rattle.tables.specs.declared.table.Mapping.{Mapping}
+use Rattle.tables.specs.declared.table.ShallowMapping.{ShallowMapping}
+use Rattle.tables.specs.declared.table.ShallowMapping.the-variants.{Eof, Zero as Zeros, Raw, Refused}
+use Rattle.tables.specs.declared.table.Stop.{Stop}
+use Rattle.tables.specs.declared.table.Stop.the-variants.{Done, Refused as Stopped}
+use Rattle.tables.specs.declared.table.Piece.{Piece}
+use Rattle.tables.specs.Build.{noRow, buildOf}
+use Rattle.maps.specs.Map.{mapOf}
+use Rattle.walks.specs.Walk.{Walk, zeroPiece, rawPiece, walkOf}
 use Rattle.theorems.specs.Maps.{restOf}
 use Rattle.theorems.specs.Tiling.{metBy, noAccessFrom}
 

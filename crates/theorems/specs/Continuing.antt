@@ -4,12 +4,12 @@ use mathlib.Core.List.{List, [], _∷_, _++_}
 use mathlib.Core.Path.{_≡_}
 use lib.ListN.{length}
 use lib.Dec.{leb}
-use Rattle.text.specs.Ranges.{pick}
-use Rattle.descriptor.specs.Record.{most}
-use Rattle.extents.specs.declared.table.Table.{Table}
-use Rattle.extents.specs.declared.table.Stop.{Stop}
-use Rattle.extents.specs.declared.table.Stop.the-variants.{Done, More, Refused as Stopped}
-use Rattle.extents.specs.Walk.{Walk, ends, walkFrom, walkOf}
+use Rattle.base.specs.Ranges.{pick}
+use Rattle.lines.specs.Record.{most}
+use Rattle.tables.specs.declared.table.Table.{Table}
+use Rattle.tables.specs.declared.table.Stop.{Stop}
+use Rattle.tables.specs.declared.table.Stop.the-variants.{Done, More, Refused as Stopped}
+use Rattle.walks.specs.Walk.{Walk, ends, walkFrom, walkOf}
 use Rattle.theorems.specs.Tiling.{All}
 
 -- a part that stopped, and after More the parts that follow it: the pieces joined, the last one's stop and position, and the rows looked at added up

@@ -2,9 +2,9 @@
 use Prim.Native.Nat.{ℕ, _^_, _<_, _≤_}
 use mathlib.Core.Bool.{true}
 use mathlib.Core.Path.{_≡_}
-use Rattle.descriptor.specs.Record.{most}
-use Rattle.extents.specs.declared.table.Table.{Table}
-use Rattle.extents.specs.Map.{Search, found, nowhere, holds, searchOf, mapOf}
+use Rattle.lines.specs.Record.{most}
+use Rattle.tables.specs.declared.table.Table.{Table}
+use Rattle.maps.specs.Map.{Search, found, nowhere, holds, searchOf, mapOf}
 use Rattle.theorems.specs.Rows.{rowAt, OneRow}
 
 -- how many rows a search looked at

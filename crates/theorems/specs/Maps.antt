@@ -4,14 +4,14 @@ use mathlib.Core.List.{List, [], _∷_}
 use mathlib.Core.Path.{_≡_}
 use mathlib.Core.Logic.{_↔_}
 use lib.Dec.{leb, ltb}
-use Rattle.text.specs.Ranges.{pick}
-use Rattle.text.specs.Sector.{largest}
-use Rattle.descriptor.specs.declared.record.VmdkParsedExtent.{VmdkParsedExtent}
-use Rattle.extents.specs.declared.table.Table.{Table}
-use Rattle.extents.specs.declared.table.ShallowMapping.{ShallowMapping}
-use Rattle.extents.specs.declared.table.ShallowMapping.the-variants.{Eof, Zero, Raw, Refused}
-use Rattle.extents.specs.Map.{mapOf}
-use Rattle.extents.specs.Place.{Place, past, locked, zeros, file, bytesIn, sizeOf, placeOf}
+use Rattle.base.specs.Ranges.{pick}
+use Rattle.numbers.specs.Sector.{largest}
+use Rattle.lines.specs.declared.record.VmdkParsedExtent.{VmdkParsedExtent}
+use Rattle.tables.specs.declared.table.Table.{Table}
+use Rattle.tables.specs.declared.table.ShallowMapping.{ShallowMapping}
+use Rattle.tables.specs.declared.table.ShallowMapping.the-variants.{Eof, Zero, Raw, Refused}
+use Rattle.maps.specs.Map.{mapOf}
+use Rattle.maps.specs.Place.{Place, past, locked, zeros, file, bytesIn, sizeOf, placeOf}
 
 -- what is left of the extent that holds byte o, from that byte on; nothing past the end
 unfoldable pub restOf : List VmdkParsedExtent → ℕ → ℕ

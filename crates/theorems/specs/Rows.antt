@@ -3,20 +3,20 @@ use Prim.Native.Nat.{ℕ, suc, _+_, _*_, _<_, _≤_}
 use mathlib.Core.Bool.{true, false}
 use mathlib.Core.Path.{_≡_}
 use lib.ListN.{length, getD}
-use Rattle.text.specs.Sector.{sectorSize}
-use Rattle.descriptor.specs.Record.{most, counted, noExtent}
-use Rattle.descriptor.specs.declared.record.Record.{Record}
-use Rattle.descriptor.specs.declared.record.Verdict.the-variants.{Sound}
-use Rattle.descriptor.specs.declared.record.VmdkParsedExtent.{VmdkParsedExtent}
-use Rattle.descriptor.specs.declared.record.VmdkParsedStorage.{VmdkParsedStorage}
-use Rattle.descriptor.specs.declared.record.VmdkParsedStorage.the-variants.{NoAccess, Zero, Flat}
-use Rattle.extents.specs.declared.table.Source.{Source}
-use Rattle.extents.specs.declared.table.Source.the-variants.{NoAccess as Locked, Zero as Zeros, Flat as File}
-use Rattle.extents.specs.declared.table.Row.{Row}
-use Rattle.extents.specs.declared.table.Table.{Table}
-use Rattle.extents.specs.Build.{noRow, buildOf}
-use Rattle.extents.specs.Map.{holds}
-use Rattle.extents.specs.Place.{bytesIn, sizeOf}
+use Rattle.numbers.specs.Sector.{sectorSize}
+use Rattle.lines.specs.Record.{most, counted, noExtent}
+use Rattle.lines.specs.declared.record.Record.{Record}
+use Rattle.lines.specs.declared.record.Verdict.the-variants.{Sound}
+use Rattle.lines.specs.declared.record.VmdkParsedExtent.{VmdkParsedExtent}
+use Rattle.lines.specs.declared.record.VmdkParsedStorage.{VmdkParsedStorage}
+use Rattle.lines.specs.declared.record.VmdkParsedStorage.the-variants.{NoAccess, Zero, Flat}
+use Rattle.tables.specs.declared.table.Source.{Source}
+use Rattle.tables.specs.declared.table.Source.the-variants.{NoAccess as Locked, Zero as Zeros, Flat as File}
+use Rattle.tables.specs.declared.table.Row.{Row}
+use Rattle.tables.specs.declared.table.Table.{Table}
+use Rattle.tables.specs.Build.{noRow, buildOf}
+use Rattle.maps.specs.Map.{holds}
+use Rattle.maps.specs.Place.{bytesIn, sizeOf}
 
 -- the record builds, and this is its table
 abbrev pub Builds : Record → Table → Type 0

@@ -7,24 +7,24 @@ use lib.ListN.{length, take, drop}
 use Rattle.text.specs.Find.{begins}
 use Rattle.text.specs.Lines.{linesOf, count}
 use Rattle.text.specs.Text.{trimmed, wordOf}
-use Rattle.text.specs.Sector.{sectorsOf}
+use Rattle.numbers.specs.Sector.{sectorsOf}
 use Rattle.text.specs.declared.words.Word.the-variants.{Found}
-use Rattle.text.specs.declared.sector.SectorCount.{SectorCount}
-use Rattle.text.specs.declared.sector.SectorCount.the-variants.{Count}
-use Rattle.descriptor.specs.Record.{most}
-use Rattle.descriptor.specs.Key.{ascii}
-use Rattle.descriptor.specs.Extent.{part, threeWords, fileStartOf}
-use Rattle.descriptor.specs.Line.{firstBlank, lineOf}
-use Rattle.descriptor.specs.Read.{leastBytes, mostBytes, sparse}
-use Rattle.descriptor.specs.declared.line.Setting.the-variants.{Version, Cid, ParentCid, CreateType, Sectors, Heads, Cylinders}
-use Rattle.descriptor.specs.declared.line.Said.{Said}
-use Rattle.descriptor.specs.declared.line.Said.the-variants.{Nothing, Extent, Set, Refused}
-use Rattle.descriptor.specs.declared.record.Text.{Text}
-use Rattle.descriptor.specs.declared.record.VmdkAccessType.{VmdkAccessType}
-use Rattle.descriptor.specs.declared.record.VmdkAccessType.the-variants.{RdOnly as ReadOnly, RW as ReadWrite}
-use Rattle.descriptor.specs.declared.record.VmdkParsedStorage.{VmdkParsedStorage}
-use Rattle.descriptor.specs.declared.record.VmdkParsedStorage.the-variants.{NoAccess, Zero as Zeros, Flat as File}
-use Rattle.descriptor.specs.declared.record.VmdkParsedExtent.{VmdkParsedExtent}
+use Rattle.numbers.specs.declared.sector.SectorCount.{SectorCount}
+use Rattle.numbers.specs.declared.sector.SectorCount.the-variants.{Count}
+use Rattle.lines.specs.Record.{most, mostBytes}
+use Rattle.base.specs.Ascii.{ascii}
+use Rattle.lines.specs.Extent.{part, threeWords, fileStartOf}
+use Rattle.lines.specs.Line.{firstBlank, lineOf}
+use Rattle.descriptor.specs.Read.{leastBytes, sparse}
+use Rattle.lines.specs.declared.line.Setting.the-variants.{Version, Cid, ParentCid, CreateType, Sectors, Heads, Cylinders}
+use Rattle.lines.specs.declared.line.Said.{Said}
+use Rattle.lines.specs.declared.line.Said.the-variants.{Nothing, Extent, Set, Refused}
+use Rattle.lines.specs.declared.record.Text.{Text}
+use Rattle.lines.specs.declared.record.VmdkAccessType.{VmdkAccessType}
+use Rattle.lines.specs.declared.record.VmdkAccessType.the-variants.{RdOnly as ReadOnly, RW as ReadWrite}
+use Rattle.lines.specs.declared.record.VmdkParsedStorage.{VmdkParsedStorage}
+use Rattle.lines.specs.declared.record.VmdkParsedStorage.the-variants.{NoAccess, Zero as Zeros, Flat as File}
+use Rattle.lines.specs.declared.record.VmdkParsedExtent.{VmdkParsedExtent}
 
 -- a descriptor to be read by line: its length is in range, and it is no sparse file
 pub record ByLine (t : List ℕ) : Type 0 where

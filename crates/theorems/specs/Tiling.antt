@@ -7,16 +7,16 @@ use mathlib.Core.Path.{_≡_}
 use mathlib.Core.Logic.{_↔_, _⊎_}
 use lib.ListN.{length}
 use lib.Dec.{ltb}
-use Rattle.text.specs.Ranges.{pick}
-use Rattle.descriptor.specs.declared.record.VmdkParsedExtent.{VmdkParsedExtent}
-use Rattle.descriptor.specs.declared.record.VmdkParsedStorage.{VmdkParsedStorage}
-use Rattle.descriptor.specs.declared.record.VmdkParsedStorage.the-variants.{NoAccess, Zero, Flat}
-use Rattle.extents.specs.declared.table.Piece.{Piece}
-use Rattle.extents.specs.declared.table.PieceSource.{PieceSource}
-use Rattle.extents.specs.declared.table.PieceSource.the-variants.{Zero as Zeros, Raw as File}
-use Rattle.extents.specs.declared.table.Stop.the-variants.{Done, Refused as Stopped}
-use Rattle.extents.specs.Place.{Place, past, locked, zeros, file, bytesIn, sizeOf, placeOf}
-use Rattle.extents.specs.Walk.{Walk}
+use Rattle.base.specs.Ranges.{pick}
+use Rattle.lines.specs.declared.record.VmdkParsedExtent.{VmdkParsedExtent}
+use Rattle.lines.specs.declared.record.VmdkParsedStorage.{VmdkParsedStorage}
+use Rattle.lines.specs.declared.record.VmdkParsedStorage.the-variants.{NoAccess, Zero, Flat}
+use Rattle.tables.specs.declared.table.Piece.{Piece}
+use Rattle.tables.specs.declared.table.PieceSource.{PieceSource}
+use Rattle.tables.specs.declared.table.PieceSource.the-variants.{Zero as Zeros, Raw as File}
+use Rattle.tables.specs.declared.table.Stop.the-variants.{Done, Refused as Stopped}
+use Rattle.maps.specs.Place.{Place, past, locked, zeros, file, bytesIn, sizeOf, placeOf}
+use Rattle.walks.specs.Walk.{Walk}
 
 -- each element of a list is so
 abbrev pub All : {A : Type 0} → (A → Type 0) → List A → Type 0

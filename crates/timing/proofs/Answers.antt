@@ -5,15 +5,15 @@ use Prim.Native.Nat.{ℕ}
 use mathlib.Core.Bool.{Bool, true, false}
 use mathlib.Core.List.{List}
 use borrow.Author.Needs.{needs}
-use Rattle.text.specs.Sector.{largest}
+use Rattle.numbers.specs.Sector.{largest}
 use Rattle.descriptor.specs.Read.{readOf}
 use Rattle.descriptor.specs.declared.read.Read.{Read}
-use Rattle.descriptor.specs.declared.record.Refusal.{Refusal}
-use Rattle.descriptor.specs.declared.record.Verdict.{Verdict}
-use Rattle.descriptor.specs.declared.record.Verdict.the-variants.{Sound, Refused}
-use Rattle.extents.specs.Build.{buildOf}
-use Rattle.extents.specs.declared.table.Table.{Table}
-use Rattle.extents.specs.declared.table.Built.{Built}
+use Rattle.lines.specs.declared.record.Refusal.{Refusal}
+use Rattle.lines.specs.declared.record.Verdict.{Verdict}
+use Rattle.lines.specs.declared.record.Verdict.the-variants.{Sound, Refused}
+use Rattle.tables.specs.Build.{buildOf}
+use Rattle.tables.specs.declared.table.Table.{Table}
+use Rattle.tables.specs.declared.table.Built.{Built}
 use Rattle.timing.specs.Map.{isAscending, mapSum}
 use Rattle.timing.specs.Read.{soundOr, tableIn, sizeOf, bitOf}
 

@@ -26,16 +26,16 @@ use denote.Triple.Spec.{tripleOf}
 use denote.Triple.Statement.{Contract}
 use denote.Triple.Clauses.{ensured, lasts}
 use denote.Triple.Walked.{says}
-use Rattle.extents.specs.Walk.{Walk, walkOf, walked, listed}
-use Rattle.extents.specs.declared.table.Piece.{Piece}
-use Rattle.extents.specs.declared.table.Table.{Table}
-use Rattle.extents.specs.declared.table.Walked.{Walked}
-use Rattle.extents.proofs.table.Piece as TP
-use Rattle.extents.proofs.table.Table as TT
-use Rattle.extents.proofs.table.Walked as TW
-use Rattle.extents.proofs.table.Walked.Laws as TW′
+use Rattle.walks.specs.Walk.{Walk, walkOf, walked, listed}
+use Rattle.tables.specs.declared.table.Piece.{Piece}
+use Rattle.tables.specs.declared.table.Table.{Table}
+use Rattle.tables.specs.declared.table.Walked.{Walked}
+use Rattle.tables.proofs.table.Piece as TP
+use Rattle.tables.proofs.table.Table as TT
+use Rattle.tables.proofs.table.Walked as TW
+use Rattle.tables.proofs.table.Walked.Laws as TW′
 use Rattle.timing.specs.Walk.{piecesIn}
-use Rattle.extents.proofs.walk.walk as walk
+use Rattle.walks.proofs.walk.walk as walk
 use Rattle.timing.proofs.walk.add_pieces as add
 
 module _ {M : Type 1} (𝓤 : URA M) (H : Heap 𝓤) (A : Atoms 𝓤) (W : Given 𝓤 H A) (mem : Memory → SProp 𝓤) (run : Routine → Fun 𝓤) where

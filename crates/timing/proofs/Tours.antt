@@ -10,12 +10,12 @@ use lib.ListN.{length, take, drop, getD, replicate, length-append, length-replic
 use lib.Seq.{drop-cons, take-append-seam}
 use borrow.Author.Needs.{needs}
 use borrow.Author.Tests.{ltb-true, ltb-false}
-use Rattle.descriptor.specs.Record.{most}
-use Rattle.extents.specs.declared.table.Table.{Table}
-use Rattle.extents.specs.declared.table.Piece.{Piece}
-use Rattle.extents.specs.Walk.{Walk, walkOf, listed}
-use Rattle.extents.specs.Stepping.{noPiece}
-use Rattle.extents.specs.Listing.{noPieces}
+use Rattle.lines.specs.Record.{most}
+use Rattle.tables.specs.declared.table.Table.{Table}
+use Rattle.tables.specs.declared.table.Piece.{Piece}
+use Rattle.walks.specs.Walk.{Walk, walkOf, listed}
+use Rattle.walks.specs.Stepping.{noPiece}
+use Rattle.walks.specs.Listing.{noPieces}
 use Rattle.timing.specs.declared.walk.Adding.{Adding}
 use Rattle.timing.specs.declared.walk.Tour.{Tour}
 use Rattle.timing.specs.Sum.{foldOf}

@@ -7,9 +7,9 @@ use mathlib.Core.Bool.{Bool, true, false}
 use lib.Dec.{ltb}
 use borrow.Author.Needs.{needs}
 use borrow.Author.Tests.{ltb-true, ltb-false, lt-ltb, le-ltb}
-use Rattle.extents.specs.declared.table.Table.{Table}
-use Rattle.extents.specs.declared.table.Mapping.{Mapping}
-use Rattle.extents.specs.Map.{mapOf}
+use Rattle.tables.specs.declared.table.Table.{Table}
+use Rattle.tables.specs.declared.table.Mapping.{Mapping}
+use Rattle.maps.specs.Map.{mapOf}
 use Rattle.timing.specs.declared.map.Tally.{Tally}
 use Rattle.timing.specs.Sum.{foldOf}
 use Rattle.timing.specs.Map.{asked, placeOf, mappingIn, nextOf, turnOf, firstOf, Steady, mapSum}

@@ -2,12 +2,12 @@
 use Prim.Native.Nat.{ℕ, zero, suc, _+_, _-_, _*_, _%_, _<_}
 use mathlib.Core.Bool.{Bool}
 use lib.Dec.{ltb}
-use Rattle.text.specs.Ranges.{pick}
-use Rattle.extents.specs.declared.table.Table.{Table}
-use Rattle.extents.specs.declared.table.ShallowMapping.{ShallowMapping}
-use Rattle.extents.specs.declared.table.ShallowMapping.the-variants.{Eof, Zero, Raw, Refused}
-use Rattle.extents.specs.declared.table.Mapping.{Mapping}
-use Rattle.extents.specs.Map.{mapOf}
+use Rattle.base.specs.Ranges.{pick}
+use Rattle.tables.specs.declared.table.Table.{Table}
+use Rattle.tables.specs.declared.table.ShallowMapping.{ShallowMapping}
+use Rattle.tables.specs.declared.table.ShallowMapping.the-variants.{Eof, Zero, Raw, Refused}
+use Rattle.tables.specs.declared.table.Mapping.{Mapping}
+use Rattle.maps.specs.Map.{mapOf}
 use Rattle.timing.specs.Sum.{foldOf}
 use Rattle.timing.specs.declared.map.Tally.{Tally}
 

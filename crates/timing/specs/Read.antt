@@ -2,12 +2,12 @@
 use Prim.Native.Nat.{ℕ}
 use mathlib.Core.Bool.{Bool, true, false}
 use mathlib.Core.List.{List}
-use Rattle.text.specs.Sector.{largest}
+use Rattle.numbers.specs.Sector.{largest}
 use Rattle.descriptor.specs.Read.{readOf}
-use Rattle.descriptor.specs.declared.record.Verdict.{Verdict}
-use Rattle.descriptor.specs.declared.record.Verdict.the-variants.{Sound, Refused}
-use Rattle.extents.specs.Build.{buildOf}
-use Rattle.extents.specs.declared.table.Table.{Table}
+use Rattle.lines.specs.declared.record.Verdict.{Verdict}
+use Rattle.lines.specs.declared.record.Verdict.the-variants.{Sound, Refused}
+use Rattle.tables.specs.Build.{buildOf}
+use Rattle.tables.specs.declared.table.Table.{Table}
 
 -- a number where the verdict is sound, 2^64-1 where it is a refusal
 abbrev pub soundOr : Verdict → ℕ → ℕ

@@ -2,10 +2,10 @@
 use Prim.Native.Nat.{ℕ, zero, suc, _+_, _-_, _%_, _<_}
 use mathlib.Core.List.{List, [], _∷_}
 use lib.Dec.{ltb}
-use Rattle.descriptor.specs.Record.{most}
-use Rattle.extents.specs.declared.table.Table.{Table}
-use Rattle.extents.specs.declared.table.Piece.{Piece}
-use Rattle.extents.specs.Walk.{walkOf}
+use Rattle.lines.specs.Record.{most}
+use Rattle.tables.specs.declared.table.Table.{Table}
+use Rattle.tables.specs.declared.table.Piece.{Piece}
+use Rattle.walks.specs.Walk.{walkOf}
 use Rattle.timing.specs.Sum.{foldOf}
 use Rattle.timing.specs.declared.walk.Adding.{Adding}
 use Rattle.timing.specs.declared.walk.Tour.{Tour}

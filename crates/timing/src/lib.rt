@@ -3,16 +3,16 @@ mod map;
 mod sum;
 mod walk;
 
-use descriptor::probe;
 use descriptor::read::parse_descriptor_file;
-use descriptor::record::Verdict;
-use extents::build::build;
-use extents::table::Table;
+use lines::record::Verdict;
+use probing::probe;
+use tables::build::build;
+use tables::table::Table;
 ghost use mathlib.Core.Path.{_≡_};
 ghost use Rattle.timing.specs.Read.{sizeOf, bitOf, tableIn};
 ghost use Rattle.timing.specs.Map.{mapSum, isAscending};
 ghost use Rattle.timing.specs.Walk.{walkSum};
-ghost use Rattle.descriptor.specs.Probe.{probeOf};
+ghost use Rattle.probing.specs.Probe.{probeOf};
 
 // Read and build: the disk's size; 2^64-1 if either is refused.
 #[no_mangle]

@@ -1,9 +1,9 @@
 // Many mappings of one table, which is lent to each of them.
 use crate::sum::fold;
-use extents::mapping;
-use extents::table::Mapping;
-use extents::table::ShallowMapping;
-use extents::table::Table;
+use maps::mapping;
+use tables::table::Mapping;
+use tables::table::ShallowMapping;
+use tables::table::Table;
 ghost use mathlib.Core.Path.{_≡_};
 ghost use Prim.Native.Nat.{_<_};
 ghost use Rattle.timing.specs.Map.{placeOf, nextOf, turnOf, firstOf, Steady, isAscending, mapSum};

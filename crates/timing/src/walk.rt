@@ -1,13 +1,13 @@
 // Many walks of one table, into one list of pieces; both are lent.
 use crate::sum::fold;
-use extents::table::Piece;
-use extents::table::PieceSource;
-use extents::table::Table;
-use extents::walk;
+use tables::table::Piece;
+use tables::table::PieceSource;
+use tables::table::Table;
+use walks::walk;
 ghost use mathlib.Core.Path.{_≡_};
 ghost use Prim.Native.Nat.{_<_, _≤_};
 ghost use lib.ListN.{length, take};
-ghost use Rattle.extents.specs.Listing.{noPieces};
+ghost use Rattle.walks.specs.Listing.{noPieces};
 ghost use Rattle.timing.specs.Walk.{pieceIn, piecesIn, addedOf, addingOf, Short, touredOf, setOut, Ready, walkSum};
 
 // Where the adding of a list's pieces stands: whether there is one more piece, its number, how many there are, and the sum so far.

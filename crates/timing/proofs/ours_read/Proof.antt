@@ -7,7 +7,7 @@ use Rattle.timing.proofs.ours_read.Tie as tie
 use Rattle.timing.proofs.ours_read.Reads as reads
 use Rattle.timing.proofs.ours_read.Lts as lts
 use Rattle.descriptor.proofs.read.parse_descriptor_file.Reads as parse-descriptor-file-reads
-use Rattle.extents.proofs.build.build.Reads as build-reads
+use Rattle.tables.proofs.build.build.Reads as build-reads
 
 pub ours-read-spec : {M : Type 1} → statement M
 ours-read-spec =

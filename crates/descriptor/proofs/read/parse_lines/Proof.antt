@@ -5,8 +5,8 @@ use mathlib.Core.Path.{_≡_}
 use mathlib.Core.Bool.{true}
 use mathlib.Core.List.{[]}
 use lib.ListN.{length}
-use Rattle.text.specs.Ranges.{pick}
-use Rattle.descriptor.specs.Record.{noDesc}
+use Rattle.base.specs.Ranges.{pick}
+use Rattle.lines.specs.Record.{noDesc}
 use Rattle.descriptor.specs.Array.{Tidy, readIn}
 use Rattle.descriptor.proofs.Reading.{leftOf}
 use Rattle.descriptor.proofs.Reading.{readings}

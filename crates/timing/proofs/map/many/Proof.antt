@@ -40,24 +40,24 @@ use denote.Triple.Table.{entered, cited}
 use denote.Triple.Walked.{says, Stays, stay-none, stay-none-ref, walkOf as walkedOf, goes-none, goes-none-ref, Walks, ends-at, walked as walkedᴹ, walk-meets}
 use denote.Exit.{yes}
 use denote.Signature.{plain}
-use Rattle.extents.specs.Map.{mapOf}
-use Rattle.extents.specs.declared.table.Table.{Table}
-use Rattle.extents.specs.declared.table.Mapping.{Mapping}
+use Rattle.maps.specs.Map.{mapOf}
+use Rattle.tables.specs.declared.table.Table.{Table}
+use Rattle.tables.specs.declared.table.Mapping.{Mapping}
 use Rattle.timing.specs.Map.{isAscending, turnOf, firstOf, Steady, mapSum}
 use Rattle.timing.specs.declared.map.Tally.{Tally}
-use Rattle.extents.proofs.table.Table as TT
-use Rattle.extents.proofs.table.Table.Laws as TT′
-use Rattle.extents.proofs.table.Mapping as TG
-use Rattle.extents.proofs.table.Mapping.Laws as TG′
+use Rattle.tables.proofs.table.Table as TT
+use Rattle.tables.proofs.table.Table.Laws as TT′
+use Rattle.tables.proofs.table.Mapping as TG
+use Rattle.tables.proofs.table.Mapping.Laws as TG′
 use Rattle.timing.proofs.map.Tally as TK
 use Rattle.timing.proofs.map.Tally.Laws as TK′
-use Rattle.extents.proofs.Plain.{asks, answers}
-use Rattle.extents.proofs.Held.{alive-one, one-alive, own-first, asks-held, answers-held}
+use Rattle.maps.proofs.Plain.{asks, answers}
+use Rattle.maps.proofs.Held.{alive-one, one-alive, own-first, asks-held, answers-held}
 use Rattle.timing.proofs.Turns.{Going, first-going, turn-going, going-steady, sumFrom, sum-turn, sum-done, near}
-use Rattle.extents.proofs.mapping.get_mapping as get
-use Rattle.extents.proofs.mapping.get_mapping.Symbol as get-def
-use Rattle.extents.proofs.mapping.get_mapping.Symbol.{name as #get}
-use Rattle.extents.proofs.mapping.get_mapping.Met as get-thm
+use Rattle.maps.proofs.mapping.get_mapping as get
+use Rattle.maps.proofs.mapping.get_mapping.Symbol as get-def
+use Rattle.maps.proofs.mapping.get_mapping.Symbol.{name as #get}
+use Rattle.maps.proofs.mapping.get_mapping.Met as get-thm
 use Rattle.timing.proofs.map.first as first-of
 use Rattle.timing.proofs.map.first.Symbol as first-of-def
 use Rattle.timing.proofs.map.first.Symbol.{name as #first-of}
@@ -279,7 +279,7 @@ many-spec 𝓤 H 𝓜 𝓖 𝓡 =
     entered 𝓤 H (tripleOf 𝓤 H (𝓖 .A) self.signature (self.spec 𝓤 H (𝓖 .A) (𝓜 .mem) (𝓡 .run)))
     (tables 𝓤 H 𝓜 𝓡 code.env .C) (tables 𝓤 H 𝓜 𝓡 code.env .Λ) #many code.function (code.unfolded 𝓤 H 𝓜 𝓡)
     (meets 𝓤 H (𝓖 .A) (givenOf 𝓤 H 𝓜 𝓖) (𝓜 .mem) (𝓡 .run) (tablesOf 𝓤 H 𝓜 (tables 𝓤 H 𝓜 𝓡 code.env))
-    (cited 𝓤 H (Get 𝓤 H (𝓖 .A) (𝓜 .mem) (𝓡 .run)) 𝓜 𝓡 code.env #get get-def.routine code.calls-extents·mapping·get-mapping (get-thm.met 𝓤 H 𝓜 𝓖 𝓡))
+    (cited 𝓤 H (Get 𝓤 H (𝓖 .A) (𝓜 .mem) (𝓡 .run)) 𝓜 𝓡 code.env #get get-def.routine code.calls-maps·mapping·get-mapping (get-thm.met 𝓤 H 𝓜 𝓖 𝓡))
     (cited 𝓤 H (First 𝓤 H (𝓖 .A) (𝓜 .mem) (𝓡 .run)) 𝓜 𝓡 code.env #first-of first-of-def.routine code.calls-timing·map·first (first-of-thm.met 𝓤 H 𝓜 𝓖 𝓡))
     (cited 𝓤 H (Turned 𝓤 H (𝓖 .A) (𝓜 .mem) (𝓡 .run)) 𝓜 𝓡 code.env #turned turned-def.routine code.calls-timing·map·turned (turned-thm.met 𝓤 H 𝓜 𝓖 𝓡))
     (cited 𝓤 H (SumOf 𝓤 H (𝓖 .A) (𝓜 .mem) (𝓡 .run)) 𝓜 𝓡 code.env #sum-of sum-of-def.routine code.calls-timing·map·sum-of (sum-of-thm.met 𝓤 H 𝓜 𝓖 𝓡)))

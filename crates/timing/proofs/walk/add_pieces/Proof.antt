@@ -46,15 +46,15 @@ use denote.Triple.Table.{entered, cited}
 use denote.Triple.Walked.{says, needs, Stays, stay-slice, stay-none, walkOf as walkedOf, goes-slice, goes-none, Walks, ends-at, walked as walkedᴹ, walk-meets}
 use denote.Exit.{yes}
 use denote.Signature.{plain}
-use Rattle.extents.specs.Stepping.{noPiece}
-use Rattle.extents.specs.declared.table.Piece.{Piece}
+use Rattle.walks.specs.Stepping.{noPiece}
+use Rattle.tables.specs.declared.table.Piece.{Piece}
 use Rattle.timing.specs.Walk.{piecesIn, addingOf, addedOf, Short}
 use Rattle.timing.specs.declared.walk.Adding.{Adding}
-use Rattle.extents.proofs.table.Piece as TP
-use Rattle.extents.proofs.table.Piece.Laws as TP′
+use Rattle.tables.proofs.table.Piece as TP
+use Rattle.tables.proofs.table.Piece.Laws as TP′
 use Rattle.timing.proofs.walk.Adding as TK
 use Rattle.timing.proofs.walk.Adding.Laws as TK′
-use Rattle.extents.proofs.Plain.{asks, answers}
+use Rattle.maps.proofs.Plain.{asks, answers}
 use Rattle.timing.proofs.Tours.{Adds, restSum, adds-first, rest-first, adds-short, adds-next, inside, rest-next, rest-done, nearer}
 use Rattle.timing.proofs.walk.start_adding as start
 use Rattle.timing.proofs.walk.start_adding.Symbol as start-def

@@ -33,12 +33,12 @@ use denote.Triple.Statement.{Contract, Triple}
 use denote.Triple.Table.{entered, cited}
 use denote.Triple.Walked.{says, Stays, stay-none, walkOf, goes-none, Walks, ends-at, walked, walk-meets}
 use denote.Exit.{yes}
-use Rattle.extents.specs.declared.table.Table.{Table}
+use Rattle.tables.specs.declared.table.Table.{Table}
 use Rattle.timing.specs.Walk.{walkSum}
-use Rattle.extents.proofs.table.Table as TT
-use Rattle.extents.proofs.table.Table.Laws as TT′
-use Rattle.extents.proofs.Held.{alive-one, one-alive, own-first, asks-held, answers-held}
-use Rattle.extents.proofs.LentTable.{Lends, Kept, Cell, lends-table, table-back}
+use Rattle.tables.proofs.table.Table as TT
+use Rattle.tables.proofs.table.Table.Laws as TT′
+use Rattle.maps.proofs.Held.{alive-one, one-alive, own-first, asks-held, answers-held}
+use Rattle.walks.proofs.LentTable.{Lends, Kept, Cell, lends-table, table-back}
 use Rattle.timing.proofs.walk.tours as tours
 use Rattle.timing.proofs.walk.tours.Symbol as tours-def
 use Rattle.timing.proofs.walk.tours.Symbol.{name as #tours}

@@ -1,0 +1,1 @@
+// What the definitions of every crate are written with, and no code.

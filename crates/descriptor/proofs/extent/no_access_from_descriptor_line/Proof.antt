@@ -1,7 +1,0 @@
-use Rattle.descriptor.proofs.Extents.{extents}
-use Rattle.descriptor.proofs.extent.no_access_from_descriptor_line.Statement.{statement}
-use Rattle.descriptor.proofs.extent.no_access_from_descriptor_line.Tie as tie
-
-pub no-access-from-descriptor-line-spec : {M : Type 1} → statement M
-no-access-from-descriptor-line-spec =
-    tie.close (tie.spec (λ c κs. search extents) (λ c. search extents) (λ c. search extents) (λ c. search extents) (λ c. search extents))

@@ -1,8 +1,0 @@
-use Rattle.descriptor.proofs.Settings.{measures}
-use Rattle.descriptor.proofs.line.geometry.Statement.{statement}
-use Rattle.descriptor.proofs.line.geometry.Tie as tie
-
-pub geometry-spec : {M : Type 1} → statement M
-geometry-spec =
-    tie.close
-    (tie.spec (λ c κs. search measures) (λ c. search measures) (λ c κs. search measures) (λ c. search measures) (λ c. search measures) (λ c. search measures))

@@ -1,6 +1,0 @@
-use Rattle.descriptor.proofs.Kepts.{kepts}
-use Rattle.descriptor.proofs.line.kept.Statement.{statement}
-use Rattle.descriptor.proofs.line.kept.Tie as tie
-
-pub kept-spec : {M : Type 1} → statement M
-kept-spec = tie.close (tie.spec (λ c. search kepts) (λ c. search kepts) (λ c. search kepts) (λ c. search kepts))

@@ -1,0 +1,2 @@
+// The lines of a whole disk.
+pub mod whole;

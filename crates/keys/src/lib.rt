@@ -1,0 +1,2 @@
+// The keys of a descriptor.
+pub mod key;

@@ -1,0 +1,4 @@
+pub mod Kepts
+pub mod Extents
+pub mod Settings
+pub mod Lines

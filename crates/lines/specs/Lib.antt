@@ -1,0 +1,4 @@
+pub mod Record
+pub mod Kept
+pub mod Extent
+pub mod Line

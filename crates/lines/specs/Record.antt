@@ -1,0 +1,56 @@
+-- What a record holds: at most 128 extents; places past the count are no access and zeros, and an empty text is place 0, length 0.
+use Prim.Native.Nat.{ℕ, _-_}
+use mathlib.Core.List.{List, [], _++_}
+use lib.ListN.{length, take, replicate}
+use Rattle.lines.specs.declared.record.Text.{Text}
+use Rattle.lines.specs.declared.record.VmdkParsedExtent.{VmdkParsedExtent}
+use Rattle.lines.specs.declared.record.VmdkParsedStorage.the-variants.{NoAccess}
+use Rattle.lines.specs.declared.record.VmdkDesc.{VmdkDesc}
+use Rattle.lines.specs.declared.record.Record.{Record}
+use Rattle.lines.specs.declared.record.Verdict.{Verdict}
+use Rattle.lines.specs.declared.record.Verdict.the-variants.{Refused}
+
+-- how many extents a record has room for, and rows a table
+abbrev pub most : ℕ
+most = 128
+
+-- the most bytes of a descriptor
+abbrev pub mostBytes : ℕ
+mostBytes = 2097152
+
+-- the empty text
+abbrev pub noText : Text
+noText = record { place = 0; length = 0 }
+
+-- no access and zeros
+abbrev pub noExtent : VmdkParsedExtent
+noExtent = record { sectors = record { 0 = 0 }; storage = NoAccess }
+
+-- the values of a descriptor: version, CID, parentCID, createType, and the geometry's sectors, heads and cylinders
+abbrev pub descOf : ℕ → Text → Text → Text → ℕ → ℕ → ℕ → VmdkDesc
+descOf v c p t s h y =
+    record { version = v; cid = c; «parent_cid» = p; «create_type» = t; sectors = s; heads = h; cylinders = y }
+
+-- the start values
+abbrev pub noDesc : VmdkDesc
+noDesc = descOf 0 noText noText noText 0 0 0
+
+-- a list in 128 places: what it holds, and `none` in the places past it
+unfoldable pub filled : {A : Type 0} → A → List A → List A
+filled none xs = xs ++ replicate (most - length xs) none
+
+-- the record of some values and extents
+abbrev pub recordOf : VmdkDesc → List VmdkParsedExtent → Record
+recordOf desc xs = record { desc = desc; count = length xs; extents = filled noExtent xs }
+
+-- the empty record
+abbrev pub noRecord : Record
+noRecord = recordOf noDesc []
+
+-- the extents that a record counts
+unfoldable pub counted : Record → List VmdkParsedExtent
+counted r = take (r .count) (r .extents)
+
+-- a refusal by its number and its second number
+abbrev pub refusal : ℕ → ℕ → Verdict
+refusal number second = Refused (record { number = number; second = second })

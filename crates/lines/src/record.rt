@@ -1,0 +1,71 @@
+// What reading a descriptor gives: its values and its extents, in sectors.
+use numbers::sector::Sectors;
+
+// A text of the descriptor: its place and its length in bytes. An empty text is place 0, length 0.
+pub struct Text {
+    pub place: usize,
+    pub length: usize,
+}
+
+// Access type for VMDK extents. (No access is a storage of its own.)
+pub enum VmdkAccessType {
+    // Read-only access
+    RdOnly,
+    // Read-write access
+    RW,
+}
+
+// VMDK extent information after parsing, before opening
+pub enum VmdkParsedStorage {
+    // No access
+    NoAccess,
+    // A zero-filled extent
+    Zero(VmdkAccessType),
+    // A FLAT extent with a RAW file: its access, the file's name, and where its data begins in the file, in sectors
+    Flat(VmdkAccessType, Text, Sectors),
+}
+
+// VMDK extent descriptor information after parsing, before opening
+pub struct VmdkParsedExtent {
+    // Number of sectors.
+    pub sectors: Sectors,
+    // Data source
+    pub storage: VmdkParsedStorage,
+}
+
+// VMDK descriptor information.
+pub struct VmdkDesc {
+    // Version number of the VMDK descriptor
+    pub version: u32,
+    // Content ID
+    pub cid: Text,
+    // Content ID of the parent link
+    pub parent_cid: Text,
+    // Type of virtual disk
+    pub create_type: Text,
+    // The disk geometry value (sectors)
+    pub sectors: u64,
+    // The disk geometry value (heads)
+    pub heads: u64,
+    // The disk geometry value (cylinders)
+    pub cylinders: u64,
+}
+
+// A descriptor that was read: its values, the number of its extents, and the extents. Places past the count are no access and zeros.
+pub struct Record {
+    pub desc: VmdkDesc,
+    pub count: usize,
+    pub extents: [VmdkParsedExtent; 128],
+}
+
+// Why an input is refused: document 01's number, and its second number.
+pub struct Refusal {
+    pub number: u8,
+    pub second: usize,
+}
+
+// Whether an input is refused.
+pub enum Verdict {
+    Sound,
+    Refused(Refusal),
+}

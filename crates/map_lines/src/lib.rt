@@ -1,0 +1,2 @@
+// The line of a mapping.
+pub mod map;

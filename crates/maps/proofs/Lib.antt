@@ -1,0 +1,6 @@
+pub mod Item
+pub mod Plain
+pub mod Rows
+pub mod Held
+pub mod Halves
+pub mod Mappings

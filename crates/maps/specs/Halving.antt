@@ -1,0 +1,61 @@
+-- How the code goes through a search and maps: the window after a look, a search's end as one number, and the mapping from what was found.
+use Prim.Native.Nat.{ℕ, _+_, _-_, _*_, _/_, _%_, _<_, _≤_, min}
+use mathlib.Core.Path.{_≡_}
+use mathlib.Core.Bool.{Bool, true, false, not}
+use lib.Dec.{leb, ltb}
+use Rattle.base.specs.Ranges.{pick}
+use Rattle.lines.specs.Record.{most}
+use Rattle.tables.specs.declared.table.Row.{Row}
+use Rattle.tables.specs.declared.table.Table.{Table}
+use Rattle.tables.specs.declared.table.Mapping.{Mapping}
+use Rattle.maps.specs.declared.halving.Heading.{Heading}
+use Rattle.maps.specs.declared.halving.Hit.{Hit}
+use Rattle.maps.specs.declared.halving.Next.{Next}
+use Rattle.maps.specs.Map.{Search, found, nowhere, holds, sourced, ended, refused}
+
+-- the numbers beside the rows
+abbrev pub headOf : Table → Heading
+headOf t = record { size = t .size .0; count = t .count }
+
+-- a search's end, with k looks before it
+abbrev pub upon : ℕ → Search → Search
+upon k (found i n) = found i (k + n)
+upon k (nowhere n) = nowhere (k + n)
+
+-- a search's end as one number
+abbrev pub packed : Search → ℕ
+packed (found i n) = n * 4096 + (i + 1)
+packed (nowhere n) = n * 4096
+
+-- a search's end as a struct
+abbrev pub hitOf : Search → Hit
+hitOf (found i n) = record { found = true; row = i; looked = n }
+hitOf (nowhere n) = record { found = false; row = 0; looked = n }
+
+-- the search's end that a number stands for
+unfoldable pub unpackOf : ℕ → Hit
+unpackOf code = pick (ltb 0 (code % 4096)) (hitOf (found (code % 4096 - 1) (code / 4096))) (hitOf (nowhere (code / 4096)))
+
+-- the window lo up to hi after a look at row i, before which k rows were looked at; the answer if row i holds the offset
+abbrev pub window : Bool → ℕ → ℕ → ℕ → ℕ → Next
+window more lo hi i k = record { more = more; lo = lo; hi = hi; looked = k + 1; code = packed (found i (k + 1)) }
+
+-- after a look at row i of lo up to hi: more where the row does not hold the offset, in the rows after it or in those before it
+unfoldable pub nextOf : Row → ℕ → ℕ → ℕ → ℕ → ℕ → Next
+nextOf r lo i hi o k = pick (leb (r .end .0) o) (window (not (holds r o)) (i + 1) hi i k) (window (not (holds r o)) lo i i k)
+
+-- how many rows are searched: none where the answer does not depend on them
+unfoldable pub spanOf : Heading → ℕ → ℕ
+spanOf h o = pick (leb (h .count) most) (pick (leb (h .size) o) 0 (h .count)) 0
+
+-- a hit's row holds the offset
+abbrev pub Held : Hit → Row → ℕ → Type 0
+Held hit r o = hit .found ≡ true → (r .start .0 ≤ o) × (o < r .end .0)
+
+-- the mapping, once the search has ended
+unfoldable pub answerOf : Heading → Hit → Row → ℕ → ℕ → Mapping
+answerOf h hit r o asked =
+    pick (leb (h .count) most)
+    (pick (leb (h .size) o) (ended 0)
+    (pick (hit .found) (sourced (r .source) (hit .row) (o - r .start .0) (min asked (min (h .size - o) (r .end .0 - o))) (hit .looked)) (ended (hit .looked))))
+    (refused 23 0)

@@ -1,0 +1,148 @@
+// The row search, over a table that is lent. Each function with a `&Table` is thin, and proved by hand; what decides has plain parameters.
+use tables::table::Row;
+use tables::table::Table;
+ghost use mathlib.Core.Path.{_≡_};
+ghost use mathlib.Core.Bool.{false, not};
+ghost use Prim.Native.Nat.{_+_, _-_, _<_, _≤_};
+ghost use lib.ListN.{getD};
+ghost use lib.Dec.{leb, ltb};
+ghost use Rattle.base.specs.Ranges.{pick};
+ghost use Rattle.tables.specs.Build.{noRow};
+ghost use Rattle.maps.specs.Map.{nowhere, middle as middleOf, halve};
+ghost use Rattle.maps.specs.Halving.{headOf, upon, packed, unpackOf, nextOf};
+
+// The numbers beside the rows.
+pub struct Heading {
+    pub size: u64,
+    pub count: usize,
+}
+
+// Where a search ended: at a row, or nowhere, and how many rows were looked at.
+pub struct Hit {
+    pub found: bool,
+    pub row: usize,
+    pub looked: usize,
+}
+
+// What is left to search after a look at the row in the middle, and the answer where nothing is.
+pub struct Next {
+    pub more: bool,
+    pub lo: usize,
+    pub hi: usize,
+    pub looked: usize,
+    pub code: usize,
+}
+
+// One row. By hand.
+pub(crate) fn row_at(t: &Table, i: usize) -> Row
+    requires { ⌜ i < 128 ⌝ }
+    ensures { λ r. ⌜ r ≡ getD (now (t .entry) .rows) i noRow ⌝ }
+{
+    t.rows[i]
+}
+
+// The numbers beside the rows. By hand.
+pub fn head(t: &Table) -> Heading
+    ensures { λ r. ⌜ r ≡ headOf (now (t .entry)) ⌝ }
+{
+    Heading {
+        size: t.size.0,
+        count: t.count,
+    }
+}
+
+// The row to look at, of rows lo up to hi.
+fn middle(lo: usize, hi: usize) -> usize
+    requires { ⌜ lo < hi ⌝ }
+    ensures { λ r. ⌜ r ≡ middleOf lo hi ⌝ }
+{
+    lo + (hi - lo) / 2
+}
+
+// The answer where no row is left: an answer is one number, which a function that calls itself returns in a register.
+fn no_hit(looked: usize) -> usize
+    requires { ⌜ looked ≤ 128 ⌝ }
+    ensures { λ r. ⌜ r ≡ packed (nowhere looked) ⌝ }
+{
+    looked * 4096
+}
+
+// The search's end that a number stands for.
+pub(crate) fn unpack(code: usize) -> Hit
+    ensures { λ r. ⌜ r ≡ unpackOf code ⌝ }
+{
+    let low = code % 4096;
+    if 0 < low {
+        Hit {
+            found: true,
+            row: low - 1,
+            looked: code / 4096,
+        }
+    } else {
+        Hit {
+            found: false,
+            row: 0,
+            looked: code / 4096,
+        }
+    }
+}
+
+// 1 where a row's end is at or below the offset, and 0 where not.
+fn past(end: u64, offset: u64) -> usize
+    ensures { λ r. ⌜ r ≡ pick (leb end offset) 1 0 ⌝ }
+{
+    if end <= offset { 1 } else { 0 }
+}
+
+// How far a row reaches.
+fn reach(start: u64, end: u64) -> u64
+    ensures { λ r. ⌜ r ≡ end - start ⌝ }
+{
+    if start <= end { end - start } else { 0 }
+}
+
+// Whether a row does not hold the offset: by one test, which fails at most rows, so that the processor foresees it.
+fn goes_on(start: u64, end: u64, offset: u64) -> bool
+    ensures { λ r. ⌜ r ≡ not (pick (leb start offset) (ltb offset end) false) ⌝ }
+{
+    let within = std::num::wrapping_sub_u64(offset, start);
+    let long = reach(start, end);
+    long <= within
+}
+
+// The window after a look at its middle row. It has no branch on which half is taken, since no processor foresees that.
+fn decide(row: Row, lo: usize, mid: usize, hi: usize, offset: u64, looked: usize) -> Next
+    requires { ⌜ (lo < hi) × ((mid ≡ middleOf lo hi) × ((hi ≤ 128) × (looked < 128))) ⌝ }
+    ensures { λ r. ⌜ r ≡ nextOf row lo mid hi offset looked ⌝ }
+{
+    let start = row.start.0;
+    let end = row.end.0;
+    let after = past(end, offset);
+    let more = goes_on(start, end, offset);
+    let los = [lo, mid + 1];
+    let low = los[after];
+    Next {
+        more,
+        lo: low,
+        hi: low + (hi - lo - after) / 2,
+        looked: looked + 1,
+        code: (looked + 1) * 4096 + (mid + 1),
+    }
+}
+
+// The row that holds the offset, among those from lo up to hi; it calls itself on the half that is left. By hand.
+pub(crate) fn search(t: &Table, lo: usize, hi: usize, offset: u64, looked: usize) -> usize
+    requires { ⌜ (hi ≤ 128) × (looked + (hi - lo) ≤ 128) ⌝ }
+    ensures { λ r. ⌜ r ≡ packed (upon looked (halve (hi - lo) (now (t .entry) .rows) lo hi offset)) ⌝ }
+{
+    if lo < hi {
+        let mid = middle(lo, hi);
+        let row = row_at(t, mid);
+        let n = decide(row, lo, mid, hi, offset, looked);
+        if n.more {
+            return search(t, n.lo, n.hi, offset, n.looked);
+        }
+        return n.code;
+    }
+    no_hit(looked)
+}

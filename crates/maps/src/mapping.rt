@@ -1,0 +1,131 @@
+// Mapping an offset of the disk.
+use crate::halving;
+use crate::halving::Heading;
+use crate::halving::Hit;
+use lines::record::VmdkAccessType;
+use tables::table::Mapping;
+use tables::table::Row;
+use tables::table::ShallowMapping;
+use tables::table::Source;
+use tables::table::Table;
+ghost use mathlib.Core.Path.{_≡_};
+ghost use Prim.Native.Nat.{min};
+ghost use Rattle.maps.specs.Map.{ended, refused, writable, sourced, mapOf};
+ghost use Rattle.maps.specs.Halving.{spanOf, Held, answerOf};
+
+// How many rows there are to search: none where the answer does not depend on them.
+fn span(h: Heading, offset: u64) -> usize
+    ensures { λ r. ⌜ r ≡ spanOf h offset ⌝ }
+{
+    if h.count <= 128 {
+        if offset < h.size {
+            return h.count;
+        }
+    }
+    0
+}
+
+// A refusal: run 0.
+fn refuse(number: u8, looked: usize) -> Mapping
+    ensures { λ r. ⌜ r ≡ refused number looked ⌝ }
+{
+    let mapping = ShallowMapping::Refused(number);
+    Mapping {
+        mapping,
+        run: 0,
+        looked,
+    }
+}
+
+// The disk's end, or no row: run 0.
+fn end_of_file(looked: usize) -> Mapping
+    ensures { λ r. ⌜ r ≡ ended looked ⌝ }
+{
+    let mapping = ShallowMapping::Eof;
+    Mapping {
+        mapping,
+        run: 0,
+        looked,
+    }
+}
+
+// Whether an extent may be written: exactly for RW.
+fn may_write(access: VmdkAccessType) -> bool
+    ensures { λ r. ⌜ r ≡ writable access ⌝ }
+{
+    match access {
+        VmdkAccessType::RdOnly => false,
+        VmdkAccessType::RW => true,
+    }
+}
+
+// The smaller of two lengths.
+fn least(a: u64, b: u64) -> u64
+    ensures { λ r. ⌜ r ≡ min a b ⌝ }
+{
+    if a < b { a } else { b }
+}
+
+// What the row's source has, at a place within the row.
+fn by_source(source: Source, row: usize, within: u64, run: u64, looked: usize) -> Mapping
+    ensures { λ r. ⌜ r ≡ sourced source row within run looked ⌝ }
+{
+    match source {
+        Source::NoAccess => refuse(21, looked),
+        Source::Zero(access) => {
+            let mapping = ShallowMapping::Zero(row);
+            Mapping {
+                mapping,
+                run,
+                looked,
+            }
+        }
+        Source::Flat(access, base, name) => {
+            let start = base.0;
+            if 18446744073709551615 - within < start {
+                return refuse(22, looked);
+            }
+            let writable = may_write(access);
+            let mapping = ShallowMapping::Raw(row, start + within, writable);
+            Mapping {
+                mapping,
+                run,
+                looked,
+            }
+        }
+    }
+}
+
+// The mapping, once the search has ended.
+fn answer(h: Heading, hit: Hit, row: Row, offset: u64, max_length: u64) -> Mapping
+    requires { ⌜ Held hit row offset ⌝ }
+    ensures { λ r. ⌜ r ≡ answerOf h hit row offset «max_length» ⌝ }
+{
+    if 128 < h.count {
+        return refuse(23, 0);
+    }
+    if h.size <= offset {
+        return end_of_file(0);
+    }
+    if hit.found {
+        let start = row.start.0;
+        let end = row.end.0;
+        let source = row.source;
+        let left = least(h.size - offset, end - offset);
+        let run = least(max_length, left);
+        return by_source(source, hit.row, offset - start, run, hit.looked);
+    }
+    end_of_file(hit.looked)
+}
+
+// What lies at an offset of the disk, for at most the length asked. By hand.
+pub fn get_mapping(t: &Table, offset: u64, max_length: u64) -> Mapping
+    ensures { λ r. ⌜ r ≡ mapOf (now (t .entry)) offset «max_length» ⌝ }
+{
+    let h = halving::head(t);
+    let hi = span(h, offset);
+    let code = halving::search(t, 0, hi, offset, 0);
+    let hit = halving::unpack(code);
+    let row = halving::row_at(t, hit.row);
+    answer(h, hit, row, offset, max_length)
+}

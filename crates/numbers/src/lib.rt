@@ -1,0 +1,3 @@
+// Numbers in a text, and the two kinds that they count: sectors and bytes.
+pub mod number;
+pub mod sector;

@@ -1,0 +1,44 @@
+// Reading a descriptor and building its table.
+ghost use mathlib.Core.Path.{_≡_};
+ghost use Rattle.phrases.specs.Opening.{openOf};
+use descriptor::read::parse_descriptor_file;
+use lines::record::Verdict;
+use tables::build::build;
+use tables::table::Table;
+
+// A descriptor that was read and built: its version and its table, or why it is refused.
+pub struct Opened {
+    pub verdict: Verdict,
+    pub version: u32,
+    pub table: Table,
+}
+
+// Reads a descriptor and builds its table.
+pub fn open(d: &[u8]) -> Opened
+    ensures { λ r. ⌜ r ≡ openOf (now (d .entry)) ⌝ }
+{
+    let read = parse_descriptor_file(d);
+    let verdict = read.verdict;
+    let descriptor = read.descriptor;
+    let version = descriptor.desc.version;
+    let built = build(descriptor);
+    let table = built.table;
+    match verdict {
+        Verdict::Sound => {
+            let verdict = built.verdict;
+            Opened {
+                verdict,
+                version,
+                table,
+            }
+        }
+        Verdict::Refused(r) => {
+            let verdict = Verdict::Refused(r);
+            Opened {
+                verdict,
+                version,
+                table,
+            }
+        }
+    }
+}

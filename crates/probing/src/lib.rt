@@ -1,0 +1,2 @@
+// Whether bytes are a descriptor.
+pub mod probe;

@@ -1,8 +1,0 @@
--- `word` meets its contract. The word is put, and then a space after it. Two texts that are put one after the other are the two joined. Assumes
--- nothing.
-use Rattle.report.proofs.Lines.{words}
-use Rattle.report.proofs.line.word.Statement.{statement}
-use Rattle.report.proofs.line.word.Tie as tie
-
-pub word-spec : {M : Type 1} → statement M
-word-spec = tie.close (tie.spec (λ c κs. search words) (λ c κs. search words) (λ c. search words) (λ c. search words))

@@ -1,7 +1,0 @@
--- `table_lines` meets its contract. The head is put, and then the rows. They are joined as the definition has them. Assumes nothing.
-use Rattle.report.proofs.Reports.{tables}
-use Rattle.report.proofs.whole.table_lines.Statement.{statement}
-use Rattle.report.proofs.whole.table_lines.Tie as tie
-
-pub table-lines-spec : {M : Type 1} → statement M
-table-lines-spec = tie.close (tie.spec (λ c κs. search tables) (λ c κs. search tables) (λ c. search tables) (λ c. search tables))

@@ -1,0 +1,3 @@
+// The extent table, and building it.
+pub mod build;
+pub mod table;

@@ -1,0 +1,2 @@
+// The lines of a walk.
+pub mod walk;

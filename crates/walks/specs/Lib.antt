@@ -1,0 +1,3 @@
+pub mod Walk
+pub mod Stepping
+pub mod Listing
