@@ -20,9 +20,9 @@ use Rattle.numbers.specs.declared.sector.Bytes.{Bytes}
 use Rattle.numbers.specs.declared.sector.ByteCount.{ByteCount}
 use Rattle.numbers.specs.declared.sector.ByteCount.the-variants.{Count, TooLarge}
 use Rattle.base.proofs.Flat.{by-test, within-in, within-below, within-above}
-use Rattle.text.specs.Lines.{linesAt}
-use Rattle.text.specs.Find.{lineEnd, begins}
-use Rattle.text.proofs.Lines.{line-within, line-step}
+use Rattle.finds.specs.Lines.{linesAt}
+use Rattle.finds.specs.Find.{lineEnd, begins}
+use Rattle.finds.proofs.Lines.{line-within, line-step}
 use Rattle.lines.specs.Line.{lineOf, saidAt}
 use Rattle.lines.proofs.Lines.{said-is}
 use Rattle.lines.specs.Record.{most, mostBytes, noExtent, noDesc, descOf, filled, refusal}

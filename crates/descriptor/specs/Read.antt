@@ -4,8 +4,8 @@ use mathlib.Core.List.{List, [], _∷_, _++_}
 use lib.ListN.{length}
 use lib.Dec.{leb, ltb}
 use Rattle.base.specs.Ranges.{pick, within}
-use Rattle.text.specs.Find.{begins}
-use Rattle.text.specs.Lines.{linesOf}
+use Rattle.finds.specs.Find.{begins}
+use Rattle.finds.specs.Lines.{linesOf}
 use Rattle.numbers.specs.Sector.{bytesOf, largest}
 use Rattle.numbers.specs.declared.sector.ByteCount.{ByteCount}
 use Rattle.numbers.specs.declared.sector.ByteCount.the-variants.{Count, TooLarge}

@@ -3,7 +3,7 @@ use Prim.Native.Nat.{ℕ}
 use mathlib.Core.List.{List}
 use Rattle.base.specs.Ascii.{ascii}
 use Rattle.base.specs.Ranges.{pick}
-use Rattle.text.specs.Find.{same, begins}
+use Rattle.finds.specs.Find.{same, begins}
 use Rattle.keys.specs.declared.key.Key.{Key}
 use Rattle.keys.specs.declared.key.Key.the-variants.{Version, Cid, ParentCid, CreateType, ParentFileNameHint, Geometry, Ddb, Unknown}
 use Rattle.keys.specs.declared.key.Geometry.the-variants.{Sectors, Heads, Cylinders}

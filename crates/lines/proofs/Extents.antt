@@ -10,18 +10,18 @@ use mir.Syntax.{w64}
 use mir.Val.{Fits}
 use borrow.Author.Needs.{needs}
 use Rattle.text.specs.Text.{wordOf}
-use Rattle.text.specs.Find.{findAt, same}
+use Rattle.finds.specs.Find.{findAt, same}
 use Rattle.numbers.specs.Sector.{sectorsOf}
 use Rattle.text.specs.declared.words.Word.{Word}
 use Rattle.text.specs.declared.words.Word.the-variants.{Found, None}
-use Rattle.text.specs.declared.find.Place.{Place}
-use Rattle.text.specs.declared.find.Place.the-variants.{Here, Nowhere}
+use Rattle.finds.specs.declared.find.Place.{Place}
+use Rattle.finds.specs.declared.find.Place.the-variants.{Here, Nowhere}
 use Rattle.numbers.specs.declared.sector.Sectors.{Sectors}
 use Rattle.numbers.specs.declared.sector.SectorCount.{SectorCount}
 use Rattle.numbers.specs.declared.sector.SectorCount.the-variants.{Count as Sectors·Count, Bad as Sectors·Bad}
 use Rattle.text.proofs.Bounds.{word-within}
-use Rattle.text.proofs.Finds.{found-within}
-use Rattle.text.proofs.Parts.{take-count}
+use Rattle.finds.proofs.Finds.{found-within}
+use Rattle.finds.proofs.Parts.{take-count}
 use Rattle.base.specs.Ascii.{ascii}
 use Rattle.lines.specs.Kept.{keptOf}
 use Rattle.lines.specs.Extent.{part, secondOf, thirdOf, threeWords, fileNameOf, fileStartOf, extent, flatLine, noAccessLine, extentLine}

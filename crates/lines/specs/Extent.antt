@@ -5,12 +5,12 @@ use mathlib.Core.Bool.{Bool, true, false}
 use lib.ListN.{take, drop}
 use Rattle.base.specs.Ranges.{pick}
 use Rattle.text.specs.Text.{wordOf}
-use Rattle.text.specs.Find.{findAt, same}
+use Rattle.finds.specs.Find.{findAt, same}
 use Rattle.numbers.specs.Sector.{sectorsOf}
 use Rattle.text.specs.declared.words.Word.{Word}
 use Rattle.text.specs.declared.words.Word.the-variants.{Found, None}
-use Rattle.text.specs.declared.find.Place.{Place}
-use Rattle.text.specs.declared.find.Place.the-variants.{Here, Nowhere}
+use Rattle.finds.specs.declared.find.Place.{Place}
+use Rattle.finds.specs.declared.find.Place.the-variants.{Here, Nowhere}
 use Rattle.numbers.specs.declared.sector.Sectors.{Sectors}
 use Rattle.numbers.specs.declared.sector.SectorCount.{SectorCount}
 use Rattle.numbers.specs.declared.sector.SectorCount.the-variants.{Count as Sectors·Count, Bad as Sectors·Bad}

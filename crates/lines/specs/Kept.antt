@@ -5,10 +5,10 @@ use lib.Dec.{eqb}
 use lib.ListN.{take, drop}
 use Rattle.base.specs.Ranges.{pick}
 use Rattle.text.specs.Text.{trimOf}
-use Rattle.text.specs.Find.{stripOf}
+use Rattle.finds.specs.Find.{stripOf}
 use Rattle.text.specs.declared.words.Trimmed.{Trimmed}
 use Rattle.text.specs.declared.words.Trimmed.the-variants.{Range, Wrong}
-use Rattle.text.specs.declared.find.Part.{Part}
+use Rattle.finds.specs.declared.find.Part.{Part}
 use Rattle.lines.specs.Record.{noText}
 use Rattle.lines.specs.declared.record.Text.{Text}
 

@@ -6,14 +6,14 @@ use lib.ListN.{length, take, drop, getD}
 use lib.Dec.{eqb, leb, ltb}
 use Rattle.base.specs.Ranges.{pick}
 use Rattle.text.specs.Text.{trimOf, trimmed, runOf}
-use Rattle.text.specs.Find.{findAt, same, stripOf}
+use Rattle.finds.specs.Find.{findAt, same, stripOf}
 use Rattle.numbers.specs.Number.{numberOf}
 use Rattle.numbers.specs.Sector.{largest}
 use Rattle.text.specs.declared.words.Trimmed.{Trimmed}
 use Rattle.text.specs.declared.words.Trimmed.the-variants.{Range, Wrong}
-use Rattle.text.specs.declared.find.Place.{Place}
-use Rattle.text.specs.declared.find.Place.the-variants.{Here, Nowhere}
-use Rattle.text.specs.declared.find.Part.{Part}
+use Rattle.finds.specs.declared.find.Place.{Place}
+use Rattle.finds.specs.declared.find.Place.the-variants.{Here, Nowhere}
+use Rattle.finds.specs.declared.find.Part.{Part}
 use Rattle.numbers.specs.declared.number.Num.{Num}
 use Rattle.numbers.specs.declared.number.Num.the-variants.{Value, Bad}
 use Rattle.base.specs.Ascii.{ascii}

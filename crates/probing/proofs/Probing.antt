@@ -11,19 +11,19 @@ use borrow.Author.Needs.{needs}
 use borrow.Author.Tests.{le-leb, lt-ltb, le-ltb}
 use Rattle.base.specs.Ranges.{pick}
 use Rattle.text.specs.Text.{textFrom, textAt, sound, dropBlanks, trimText, trimOf, trimmed}
-use Rattle.text.specs.Find.{findFrom, findAt, lineEnd, same, begins}
-use Rattle.text.specs.Lines.{linesAt}
+use Rattle.finds.specs.Find.{findFrom, findAt, lineEnd, same, begins}
+use Rattle.finds.specs.Lines.{linesAt}
 use Rattle.numbers.specs.Number.{numberOf}
 use Rattle.text.specs.declared.words.Trimmed.{Trimmed}
 use Rattle.text.specs.declared.words.Trimmed.the-variants.{Range, Wrong}
-use Rattle.text.specs.declared.find.Place.{Place}
-use Rattle.text.specs.declared.find.Place.the-variants.{Here, Nowhere}
+use Rattle.finds.specs.declared.find.Place.{Place}
+use Rattle.finds.specs.declared.find.Place.the-variants.{Here, Nowhere}
 use Rattle.numbers.specs.declared.number.Num.{Num}
 use Rattle.numbers.specs.declared.number.Num.the-variants.{Value}
 use Rattle.base.proofs.Flat.{within-below}
-use Rattle.text.proofs.Finds.{found-within}
-use Rattle.text.proofs.Parts.{part-rest, take-count}
-use Rattle.text.proofs.Lines.{line-within, line-step}
+use Rattle.finds.proofs.Finds.{found-within}
+use Rattle.finds.proofs.Parts.{part-rest, take-count}
+use Rattle.finds.proofs.Lines.{line-within, line-step}
 use Rattle.base.specs.Ascii.{ascii}
 use Rattle.lines.specs.Line.{versionLimit}
 use Rattle.lines.specs.Record.{mostBytes}

@@ -6,13 +6,13 @@ use lib.ListN.{length, take, drop}
 use lib.Dec.{ltb}
 use Rattle.base.specs.Ranges.{pick, within}
 use Rattle.text.specs.Text.{trimOf, trimmed}
-use Rattle.text.specs.Find.{findAt, same, begins}
-use Rattle.text.specs.Lines.{linesOf, linesAt}
+use Rattle.finds.specs.Find.{findAt, same, begins}
+use Rattle.finds.specs.Lines.{linesOf, linesAt}
 use Rattle.numbers.specs.Number.{numberOf}
 use Rattle.text.specs.declared.words.Trimmed.{Trimmed}
 use Rattle.text.specs.declared.words.Trimmed.the-variants.{Range, Wrong}
-use Rattle.text.specs.declared.find.Place.{Place}
-use Rattle.text.specs.declared.find.Place.the-variants.{Here, Nowhere}
+use Rattle.finds.specs.declared.find.Place.{Place}
+use Rattle.finds.specs.declared.find.Place.the-variants.{Here, Nowhere}
 use Rattle.numbers.specs.declared.number.Num.{Num}
 use Rattle.numbers.specs.declared.number.Num.the-variants.{Value, Bad}
 use Rattle.base.specs.Ascii.{ascii}

@@ -8,7 +8,7 @@ use mathlib.Core.Path.{_≡_}
 use lib.ListN.{length}
 use borrow.Author.Needs.{needs}
 use borrow.Author.Tests.{eq-eqb, ne-eqb, le-leb, lt-leb}
-use Rattle.text.specs.Find.{same}
+use Rattle.finds.specs.Find.{same}
 use Rattle.numbers.specs.Number.{numberOf}
 use Rattle.numbers.specs.Sector.{largest}
 use Rattle.numbers.specs.declared.number.Num.{Num}

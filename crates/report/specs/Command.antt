@@ -4,7 +4,7 @@ use mathlib.Core.List.{List, []}
 use lib.ListN.{length}
 use lib.Dec.{leb, eqb}
 use Rattle.base.specs.Ranges.{pick}
-use Rattle.text.specs.Find.{same}
+use Rattle.finds.specs.Find.{same}
 use Rattle.numbers.specs.Number.{numberOf}
 use Rattle.numbers.specs.Sector.{largest}
 use Rattle.numbers.specs.declared.number.Num.{Num}

@@ -19,7 +19,7 @@ use Rattle.unicode.specs.declared.utf8.Lead.the-variants.{Row as Lead·Row}
 use Rattle.unicode.specs.declared.utf8.Char.{Char}
 use Rattle.unicode.specs.declared.utf8.Char.the-variants.{Scalar, Bad, End}
 use Rattle.base.proofs.Flat.{by-test, both, unless, within-in}
-use Rattle.text.proofs.Parts.{part-rest, block-byte, block-long}
+use Rattle.finds.proofs.Parts.{part-rest, block-byte, block-long}
 use Rattle.unicode.proofs.Chars.{lead-in, char-at, char-end, tail-read, tail-none}
 use Rattle.text.proofs.Texts.{Fit, fit, wide-at, next-fits, next-less, text-step, text-bad, text-end}
 

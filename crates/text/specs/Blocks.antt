@@ -1,21 +1,16 @@
 -- What the code asks of several bytes at once, or of a place, so as not to read one character after the other.
--- Only functions that are not exported promise these; what they come to is said by the definitions of Text and Find.
+-- Only functions that are not exported promise these; what they come to is said by the definitions of Text.
 use Prim.Native.Nat.{ℕ, zero, suc, _≤_}
 use mathlib.Core.List.{List}
-use mathlib.Core.Bool.{Bool, true, false, _&&_, not}
+use mathlib.Core.Bool.{Bool, true, false, _&&_}
 use mathlib.Core.Path.{_≡_}
 use lib.ListN.{length, getD}
-use lib.Dec.{eqb, ltb}
+use lib.Dec.{ltb}
 use Rattle.base.specs.Ranges.{pick, within}
 use Rattle.unicode.specs.Blank.{blank}
 use Rattle.text.specs.Text.{sound, textAt}
 use Rattle.unicode.specs.declared.utf8.Char.{Char}
 use Rattle.unicode.specs.declared.utf8.Char.the-variants.{Scalar, Bad, End}
-
--- none of the first n bytes is b
-unfoldable pub without : ℕ → ℕ → List ℕ → Bool
-without zero b l = true
-without (suc n) b l = without n b l && not (eqb (getD l n 0) b)
 
 -- each of the first n bytes is below 80
 unfoldable pub below : ℕ → List ℕ → Bool

@@ -1,4 +1,2 @@
 pub mod Text
 pub mod Blocks
-pub mod Find
-pub mod Lines

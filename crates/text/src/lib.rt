@@ -1,4 +1,3 @@
-// Lines, trimming, words, quotes, and the place of a byte.
-pub mod find;
+// Whether a text is UTF-8, its trimming, and its words.
 mod valid;
 pub mod words;

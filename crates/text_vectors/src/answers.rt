@@ -1,9 +1,9 @@
 // The answer of each function of the text layer, as three numbers.
+use finds::find::Place;
 use numbers::number::Num;
 use numbers::sector::ByteCount;
 use numbers::sector::SectorCount;
 use numbers::sector::Sectors;
-use text::find::Place;
 use text::words::Trimmed;
 use text::words::Word;
 use unicode::utf8::Char;
@@ -94,7 +94,7 @@ fn number(t: &[u8], limit: u64) -> Answer {
 
 // q: the part within the quotes.
 fn quotes(t: &[u8]) -> Answer {
-    let p = text::find::strip_quotes(t);
+    let p = finds::find::strip_quotes(t);
     places(p.from, p.to)
 }
 
@@ -123,12 +123,12 @@ fn bytes(s: Sectors) -> Answer {
 
 // l: where the first line ends.
 fn line(t: &[u8]) -> Answer {
-    places(0, text::find::line_end(t, 0))
+    places(0, finds::find::line_end(t, 0))
 }
 
 // e: the place of the first `=`.
 fn equals(t: &[u8]) -> Answer {
-    let p = text::find::find_byte(t, 0, 0x3D);
+    let p = finds::find::find_byte(t, 0, 0x3D);
     match p {
         Place::Here(i) => places(i, 0),
         Place::Nowhere => bare(0),
@@ -152,8 +152,8 @@ pub fn ask(kind: &[u8], t: &[u8]) -> Answer {
         b's' => sectors(t),
         b'l' => line(t),
         b'e' => equals(t),
-        b'i' => yes(text::find::is(t, b"version")),
-        b'd' => yes(text::find::starts_with(t, b"ddb.")),
+        b'i' => yes(finds::find::is(t, b"version")),
+        b'd' => yes(finds::find::starts_with(t, b"ddb.")),
         _ => bare(9),
     }
 }

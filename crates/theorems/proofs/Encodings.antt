@@ -9,7 +9,7 @@ use lib.Dec.{leb, eqb}
 use lib.ListN.{length, drop}
 use borrow.Author.Tests.{le-leb, lt-leb, leb-true, leb-false, eq-eqb, eqb-true}
 use Rattle.base.specs.Ranges.{look, within}
-use Rattle.text.specs.Find.{begins}
+use Rattle.finds.specs.Find.{begins}
 use Rattle.unicode.specs.Utf8.{leads, leadOf, tailOf, charBy, charOf}
 use Rattle.theorems.specs.Unicode.{scalar, trailing, encode, Stands}
 use Rattle.unicode.specs.declared.utf8.Lead.{Lead}

@@ -9,12 +9,12 @@ use mathlib.Core.Path.{_≡_, refl, subst}
 use lib.ListN.{length, take, drop}
 use lib.Dec.{ltb}
 use Rattle.text.specs.Text.{textAt, sound, trimOf, trimmed}
-use Rattle.text.specs.Find.{findAt}
+use Rattle.finds.specs.Find.{findAt}
 use Rattle.numbers.specs.Number.{numberOf}
 use Rattle.text.specs.declared.words.Trimmed.{Trimmed}
 use Rattle.text.specs.declared.words.Trimmed.the-variants.{Range, Wrong}
-use Rattle.text.specs.declared.find.Place.{Place}
-use Rattle.text.specs.declared.find.Place.the-variants.{Here, Nowhere}
+use Rattle.finds.specs.declared.find.Place.{Place}
+use Rattle.finds.specs.declared.find.Place.the-variants.{Here, Nowhere}
 use Rattle.numbers.specs.declared.number.Num.{Num}
 use Rattle.numbers.specs.declared.number.Num.the-variants.{Value, Bad}
 use Rattle.numbers.specs.declared.sector.Sectors.{Sectors}

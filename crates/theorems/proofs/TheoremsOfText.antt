@@ -12,9 +12,9 @@ use Rattle.unicode.specs.Utf8.{charAt}
 use Rattle.theorems.specs.Unicode.{encode, Stands, scalars, encodeAll}
 use Rattle.text.specs.Text.{textAt, sound, codes, trimOf, trimmed, wordOf, trimCodes, wordCodes}
 use Rattle.unicode.specs.Blank.{whiteSpace, blank}
-use Rattle.text.specs.Lines.{linesOf, count, joinLines}
+use Rattle.finds.specs.Lines.{linesOf, count, joinLines}
 use Rattle.numbers.specs.Number.{allDigits, value, digitsOf, digitsAt, signOf, numberOf, Numeral, zeros}
-use Rattle.text.specs.Find.{stripOf, partOf}
+use Rattle.finds.specs.Find.{stripOf, partOf}
 use Rattle.numbers.specs.Sector.{bytesOf}
 use Rattle.unicode.specs.declared.utf8.Char.the-variants.{Scalar, Bad, End}
 use Rattle.numbers.specs.declared.number.Num.the-variants.{Value, Bad as Num·Bad}
@@ -29,9 +29,9 @@ use Rattle.theorems.proofs.Encodings.{read-encoding, stands-read, none-
 use Rattle.theorems.proofs.Sequences.{sound-cut, sound-join}
 use Rattle.text.proofs.Trims.{trim-wrong}
 use Rattle.theorems.proofs.Spellings.{trimmed-codes, word-none-codes, word-some-codes}
-use Rattle.text.proofs.Finds.{strip-between}
+use Rattle.finds.proofs.Finds.{strip-between}
 use Rattle.numbers.proofs.Sectors.{bytes-rule, bytes-large}
-use Rattle.text.proofs.Lines.{Whole, lines-count, lines-join, lines-whole}
+use Rattle.finds.proofs.Lines.{Whole, lines-count, lines-join, lines-whole}
 use Rattle.numbers.proofs.Numerals.{number-out, number-in, zeros-value, zeros-digits}
 
 -- ---- UTF-8

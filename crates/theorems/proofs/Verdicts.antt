@@ -11,8 +11,8 @@ use lib.Seq.{take-append-seam}
 use lib.Dec.{ltb}
 use borrow.Author.Tests.{le-ltb, ltb-false}
 use Rattle.base.specs.Ranges.{within}
-use Rattle.text.specs.Find.{begins}
-use Rattle.text.specs.Lines.{linesOf}
+use Rattle.finds.specs.Find.{begins}
+use Rattle.finds.specs.Lines.{linesOf}
 use Rattle.text.specs.Text.{textAt, sound}
 use Rattle.base.proofs.Flat.{by-test}
 use Rattle.lines.specs.Record.{most, mostBytes, noExtent, noDesc, filled, recordOf, counted, refusal}

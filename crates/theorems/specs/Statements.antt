@@ -4,8 +4,8 @@ use mathlib.Core.List.{List, [], _∷_, _++_}
 use mathlib.Core.Bool.{Bool, true, false}
 use mathlib.Core.Path.{_≡_}
 use lib.ListN.{length, take, drop}
-use Rattle.text.specs.Find.{begins}
-use Rattle.text.specs.Lines.{linesOf, count}
+use Rattle.finds.specs.Find.{begins}
+use Rattle.finds.specs.Lines.{linesOf, count}
 use Rattle.text.specs.Text.{trimmed, wordOf}
 use Rattle.numbers.specs.Sector.{sectorsOf}
 use Rattle.text.specs.declared.words.Word.the-variants.{Found}

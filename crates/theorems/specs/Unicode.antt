@@ -5,7 +5,7 @@ use mathlib.Core.Bool.{Bool, true, false}
 use mathlib.Core.Path.{_≡_}
 use lib.Dec.{leb}
 use Rattle.base.specs.Ranges.{pick, within}
-use Rattle.text.specs.Find.{begins}
+use Rattle.finds.specs.Find.{begins}
 
 -- 0 to D7FF and E000 to 10FFFF
 abbrev pub scalar : ℕ → Bool

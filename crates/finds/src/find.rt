@@ -2,8 +2,8 @@
 ghost use mathlib.Core.Path.{_≡_};
 ghost use Prim.Native.Nat.{_≤_};
 ghost use lib.ListN.{length};
-ghost use Rattle.text.specs.Blocks.{without};
-ghost use Rattle.text.specs.Find.{findAt, lineEnd, same, begins, stripOf};
+ghost use Rattle.finds.specs.Without.{without};
+ghost use Rattle.finds.specs.Find.{findAt, lineEnd, same, begins, stripOf};
 
 // Where a byte is found, or that it stands nowhere.
 pub enum Place {

@@ -12,12 +12,12 @@ use lib.ListN.{length, getD, take, drop, drop-of-length-le, length-drop, length-
 use lib.Seq.{drop-cons, getD-append-seam, take-append-seam}
 use lib.Dec.{leb, eqb}
 use borrow.Author.Tests.{eq-eqb, ne-eqb, eqb-true, le-leb, lt-leb}
-use Rattle.text.specs.Blocks.{without}
-use Rattle.text.specs.Find.{findFrom, findAt, lineEnd, same, begins, stripOf, partOf}
-use Rattle.text.specs.declared.find.Place.{Place}
-use Rattle.text.specs.declared.find.Part.{Part}
-use Rattle.text.specs.declared.find.Place.the-variants.{Here, Nowhere}
-use Rattle.text.proofs.Parts.{take-count, block-byte, block-long}
+use Rattle.finds.specs.Without.{without}
+use Rattle.finds.specs.Find.{findFrom, findAt, lineEnd, same, begins, stripOf, partOf}
+use Rattle.finds.specs.declared.find.Place.{Place}
+use Rattle.finds.specs.declared.find.Part.{Part}
+use Rattle.finds.specs.declared.find.Place.the-variants.{Here, Nowhere}
+use Rattle.finds.proofs.Parts.{take-count, block-byte, block-long}
 use Rattle.base.proofs.Flat.{by-test, pick-same, both, unequal}
 
 -- Rules of the loop of `find_byte`. `search finds` finds their premises by itself: what the loop keeps, and the tests on the way.

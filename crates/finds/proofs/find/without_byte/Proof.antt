@@ -1,9 +1,9 @@
 -- `find::without_byte` meets its contract: the code's tests, in their order, are those of `without`.
 use mathlib.Core.Path.{refl}
-use Rattle.text.specs.Blocks.{without}
+use Rattle.finds.specs.Without.{without}
 use borrow.Author.Needs.{needs}
-use Rattle.text.proofs.find.without_byte.Statement.{statement}
-use Rattle.text.proofs.find.without_byte.Tie as tie
+use Rattle.finds.proofs.find.without_byte.Statement.{statement}
+use Rattle.finds.proofs.find.without_byte.Tie as tie
 
 returns : tie.Need-returns
 unfolding without

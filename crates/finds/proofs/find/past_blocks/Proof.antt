@@ -2,10 +2,10 @@
 use Prim.Native.Nat.{_-_}
 use mathlib.Core.Path.{_≡_}
 use lib.ListN.{length}
-use Rattle.text.specs.Find.{findAt}
-use Rattle.text.proofs.Finds.{blocks}
-use Rattle.text.proofs.find.past_blocks.Statement.{statement}
-use Rattle.text.proofs.find.past_blocks.Tie as tie
+use Rattle.finds.specs.Find.{findAt}
+use Rattle.finds.proofs.Finds.{blocks}
+use Rattle.finds.proofs.find.past_blocks.Statement.{statement}
+use Rattle.finds.proofs.find.past_blocks.Tie as tie
 
 abbrev Inv-loop : tie.InvT-loop
 Inv-loop t from b last at₀ at = findAt b t from ≡ findAt b t at

@@ -5,9 +5,9 @@ use mathlib.Core.Bool.{Bool, true, false}
 use lib.ListN.{length, getD, take, drop}
 use lib.Dec.{leb, eqb}
 use Rattle.base.specs.Ranges.{pick}
-use Rattle.text.specs.declared.find.Place.{Place}
-use Rattle.text.specs.declared.find.Place.the-variants.{Here, Nowhere}
-use Rattle.text.specs.declared.find.Part.{Part}
+use Rattle.finds.specs.declared.find.Place.{Place}
+use Rattle.finds.specs.declared.find.Place.the-variants.{Here, Nowhere}
+use Rattle.finds.specs.declared.find.Part.{Part}
 
 -- the first place of b in bytes that start at p
 unfoldable pub findFrom : ℕ → ℕ → List ℕ → Place

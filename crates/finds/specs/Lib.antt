@@ -1,0 +1,3 @@
+pub mod Without
+pub mod Find
+pub mod Lines
