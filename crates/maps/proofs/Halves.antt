@@ -1,12 +1,12 @@
 -- Facts on the halving search that the proofs cite. A look leaves a narrower window or ends the search, so the definition's steps are those of a function that calls itself on what is left; and a search's end is had back from its number, since a row's number is below 128.
-use Prim.Native.Nat.{ℕ, zero, suc, _+_, _-_, _*_, _/_, _%_, _^_, _<_, _≤_}
+use Prim.Native.Nat.{ℕ, zero, suc, _+_, _-_, _*_, _/_, _%_, _<_, _≤_}
 use native.Mathlib.Omega.{arith}
 use mathlib.Core.Path.{_≡_, refl, sym, _∙_, ap}
 use mathlib.Core.Bool.{Bool, true, false, not, true≢false}
-use mathlib.Core.List.{List, [], _∷_}
+use mathlib.Core.List.{List}
 use lib.Dec.{T, ltb, leb}
 use lib.ListN.{getD}
-use borrow.Author.Tests.{ltb-true, ltb-false, leb-true, leb-false, le-ltb, lt-ltb, le-leb, lt-leb}
+use borrow.Author.Tests.{ltb-true, leb-true, leb-false, le-ltb, lt-ltb}
 use Rattle.base.specs.Ranges.{pick}
 use Rattle.lines.specs.Record.{most}
 use Rattle.tables.specs.declared.table.Row.{Row}
@@ -16,7 +16,7 @@ use Rattle.maps.specs.declared.halving.Hit.{Hit}
 use Rattle.maps.specs.declared.halving.Next.{Next}
 use Rattle.tables.specs.Build.{noRow}
 use Rattle.maps.specs.Map.{Search, found, nowhere, looked, holds, middle, decide, halve, inRow, searchOf, mapOf}
-use Rattle.maps.specs.Halving.{headOf, upon, packed, hitOf, unpackOf, window, nextOf, spanOf, Held, answerOf}
+use Rattle.maps.specs.Halving.{headOf, upon, packed, hitOf, unpackOf, window, nextOf, spanOf, endOf, endRow, answerOf}
 
 -- by cases on a test
 pub pick-elim : {X : Type 0} (P : X → Type 0) (b : Bool) (x y : X) → (b ≡ true → P x) → (b ≡ false → P y) → P (pick b x y)
@@ -211,30 +211,28 @@ pub span-most : (h : Heading) (o : ℕ) → spanOf h o ≤ 128
 unfolding spanOf
 span-most h o = pick-elim (λ (k : ℕ). k ≤ 128) (leb (h .count) most) _ _ (λ e. pick-elim (λ (k : ℕ). k ≤ 128) (leb (h .size) o) _ _ (λ _. omega arith) (λ _. leb-true (h .count) 128 e)) (λ _. omega arith)
 
--- where the code's search of a table ends
-abbrev pub endOf : Table → ℕ → Search
-endOf t o = halve (spanOf (headOf t) o - 0) (t .rows) 0 (spanOf (headOf t) o) o
+minus : (k : ℕ) → k - 0 ≡ k
+minus k = omega arith
 
-pub end-back : (t : Table) (o : ℕ) → unpackOf (packed (upon 0 (endOf t o))) ≡ hitOf (endOf t o)
-end-back t o = unpack-upon (t .rows) o (spanOf (headOf t) o) (span-most (headOf t) o) (endOf t o) (halve-finds (spanOf (headOf t) o - 0) (t .rows) 0 (spanOf (headOf t) o) o (spanOf (headOf t) o) (omega arith))
+-- where `search` ends, which may make as many looks as its window is wide
+abbrev pub ranOf : Table → ℕ → Search
+ranOf t o = halve (spanOf (headOf t) o - 0) (t .rows) 0 (spanOf (headOf t) o) o
 
--- the row that a search's end names
-abbrev pub rowOf : Table → ℕ → Row
-rowOf t o = getD (t .rows) (hitOf (endOf t o) .row) noRow
+ran-is : (t : Table) (o : ℕ) → ranOf t o ≡ endOf t o
+ran-is t o = ap (λ (k : ℕ). halve k (t .rows) 0 (spanOf (headOf t) o) o) (minus (spanOf (headOf t) o))
+
+finds : (t : Table) (o : ℕ) → Finds (t .rows) o (spanOf (headOf t) o) (endOf t o)
+finds t o = halve-finds (spanOf (headOf t) o) (t .rows) 0 (spanOf (headOf t) o) o (spanOf (headOf t) o) (omega arith)
+
+pub end-back : (t : Table) (o : ℕ) → unpackOf (packed (upon 0 (ranOf t o))) ≡ hitOf (endOf t o)
+end-back t o = ap (λ (z : Search). unpackOf (packed (upon 0 z))) (ran-is t o) ∙ unpack-upon (t .rows) o (spanOf (headOf t) o) (span-most (headOf t) o) (endOf t o) (finds t o)
 
 row-below : (rows : List Row) (o bound : ℕ) → bound ≤ 128 → (s : Search) → Finds rows o bound s → hitOf s .row < 128
 row-below rows o bound b (found i n) f = omega (arith, f .1)
 row-below rows o bound b (nowhere n) f = omega arith
 
 pub end-row : (t : Table) (o : ℕ) → hitOf (endOf t o) .row < 128
-end-row t o = row-below (t .rows) o (spanOf (headOf t) o) (span-most (headOf t) o) (endOf t o) (halve-finds (spanOf (headOf t) o - 0) (t .rows) 0 (spanOf (headOf t) o) o (spanOf (headOf t) o) (omega arith))
-
-row-held : (rows : List Row) (o bound : ℕ) (s : Search) → Finds rows o bound s → Held (hitOf s) (getD rows (hitOf s .row) noRow) o
-row-held rows o bound (found i n) f = λ _. f .0
-row-held rows o bound (nowhere n) f = λ e. absurd (true≢false (sym e))
-
-pub end-held : (t : Table) (o : ℕ) → Held (hitOf (endOf t o)) (rowOf t o) o
-end-held t o = row-held (t .rows) o (spanOf (headOf t) o) (endOf t o) (halve-finds (spanOf (headOf t) o - 0) (t .rows) 0 (spanOf (headOf t) o) o (spanOf (headOf t) o) (omega arith))
+end-row t o = row-below (t .rows) o (spanOf (headOf t) o) (span-most (headOf t) o) (endOf t o) (finds t o)
 
 -- the mapping, as `get_mapping` puts it together
 answer-in : (t : Table) (o asked : ℕ) (s : Search) → leb (t .count) most ≡ true → leb (t .size .0) o ≡ false → answerOf (headOf t) (hitOf s) (getD (t .rows) (hitOf s .row) noRow) o asked ≡ inRow t o asked s
@@ -258,54 +256,18 @@ map-in : (t : Table) (o asked : ℕ) → leb (t .count) most ≡ true → leb (t
 unfolding mapOf searchOf
 map-in t o asked a b = simp (a, b)
 
-pub map-is : (t : Table) (o asked : ℕ) → answerOf (headOf t) (hitOf (endOf t o)) (rowOf t o) o asked ≡ mapOf t o asked
+pub map-is : (t : Table) (o asked : ℕ) → answerOf (headOf t) (hitOf (endOf t o)) (endRow t o) o asked ≡ mapOf t o asked
 map-is t o asked =
     by-test (leb (t .count) most)
-    (λ a. by-test (leb (t .size .0) o) (answer-late t o asked (hitOf (endOf t o)) (rowOf t o) a) (λ b.
-    answer-in t o asked (endOf t o) a b ∙ ap (λ (k : ℕ). inRow t o asked (halve k (t .rows) 0 (spanOf (headOf t) o) o)) (minus (spanOf (headOf t) o)) ∙ ap (λ (k : ℕ). inRow t o asked (halve k (t .rows) 0 k o)) (span-all t o a b) ∙ map-in t o asked a b))
-    (answer-many t o asked (hitOf (endOf t o)) (rowOf t o))
-  where
-    minus : (k : ℕ) → k - 0 ≡ k
-    minus k = omega arith
+    (λ a. by-test (leb (t .size .0) o) (answer-late t o asked (hitOf (endOf t o)) (endRow t o) a) (λ b.
+    answer-in t o asked (endOf t o) a b ∙ ap (λ (k : ℕ). inRow t o asked (halve k (t .rows) 0 k o)) (span-all t o a b) ∙ map-in t o asked a b))
+    (answer-many t o asked (hitOf (endOf t o)) (endRow t o))
 
--- the window as `decide` makes it, with no test
-next-made : (b more : Bool) (lo i hi k j : ℕ) → lo < hi → i ≡ middle lo hi → j ≡ pick b 1 0
-    → window more (getD (lo ∷ (i + 1) ∷ []) j 0) (getD (lo ∷ (i + 1) ∷ []) j 0 + (hi - lo - j) / 2) i k ≡ pick b (window more (i + 1) hi i k) (window more lo i i k)
-next-made true more lo i hi k j l m e = rw (e, wide lo i hi l m)
-  where
-    wide : (lo i hi : ℕ) → lo < hi → i ≡ middle lo hi → i + 1 + (hi - lo - 1) / 2 ≡ hi
-    wide lo i hi l m = omega (arith, m)
-next-made false more lo i hi k j l m e = rw (e, wide lo i hi l m)
-  where
-    wide : (lo i hi : ℕ) → lo < hi → i ≡ middle lo hi → lo + (hi - lo - 0) / 2 ≡ i
-    wide lo i hi l m = omega (arith, m)
+-- a row that ends at or before the offset does not hold it, and one that ends after it holds it unless it starts after it
+pub holds-late : (r : Row) (o : ℕ) → r .end .0 ≤ o → holds r o ≡ false
+holds-late r o h = pick-elim (λ (z : Bool). z ≡ false) (leb (r .start .0) o) _ _ (λ _. le-ltb _ _ h) (λ _. refl)
 
-pub next-is : (r : Row) (lo i hi o k j : ℕ) (more : Bool) → lo < hi → i ≡ middle lo hi → j ≡ pick (leb (r .end .0) o) 1 0 → more ≡ not (holds r o)
-    → window more (getD (lo ∷ (i + 1) ∷ []) j 0) (getD (lo ∷ (i + 1) ∷ []) j 0 + (hi - lo - j) / 2) i k ≡ nextOf r lo i hi o k
-unfolding nextOf
-next-is r lo i hi o k j more l m e f = next-made (leb (r .end .0) o) more lo i hi k j l m e ∙ ap (λ (z : Bool). pick (leb (r .end .0) o) (window z (i + 1) hi i k) (window z lo i i k)) f
-
--- whether a row does not hold the offset, by one test
-pub not-within : (start end o within long : ℕ) → start < 2 ^ 64 → end < 2 ^ 64 → (within + start) % 2 ^ 64 ≡ o → long ≡ end - start → within < 2 ^ 64 → leb long within ≡ not (pick (leb start o) (ltb o end) false)
-not-within start end o within long s e w l wf =
-    pick-elim (λ (z : Bool). leb long within ≡ not z) (leb start o) (ltb o end) false
-    (λ b. by-test (ltb o end) (λ c. lt-leb long within (inside (leb-true start o b) (ltb-true o end c)) ∙ ap not (sym c)) (λ c. le-leb long within (after (ltb-false o end c)) ∙ ap not (sym c)))
-    (λ b. le-leb long within (ahead (leb-false start o b)))
-  where
-    after : end ≤ o → long ≤ within
-    after h = omega (arith, s, e, w, l, wf, h)
-
-    ahead : o < start → long ≤ within
-    ahead h = omega (arith, s, e, w, l, wf, h)
-
-    inside : start ≤ o → o < end → within < long
-    inside h k = omega (arith, s, e, w, l, wf, h, k)
-
-pub bit : (b : Bool) (k : ℕ) → k ≡ pick b 1 0 → k ≤ 1
-bit true k e = omega (arith, e)
-bit false k e = omega (arith, e)
-
-pub low-most : (lo i k : ℕ) → lo ≤ i → getD (lo ∷ (i + 1) ∷ []) k 0 ≤ i + 1
-low-most lo i zero l = omega arith
-low-most lo i (suc zero) l = omega arith
-low-most lo i (suc (suc k)) l = omega arith
+pub holds-early : (r : Row) (o : ℕ) → o < r .end .0 → ltb o (r .start .0) ≡ not (holds r o)
+holds-early r o h =
+    pick-elim (λ (z : Bool). ltb o (r .start .0) ≡ not z) (leb (r .start .0) o) (ltb o (r .end .0)) false
+    (λ e. le-ltb o (r .start .0) (leb-true (r .start .0) o e) ∙ ap not (sym (lt-ltb o (r .end .0) h))) (λ e. lt-ltb o (r .start .0) (leb-false (r .start .0) o e))

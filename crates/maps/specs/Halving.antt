@@ -1,8 +1,8 @@
 -- How the code goes through a search and maps: the window after a look, a search's end as one number, and the mapping from what was found.
-use Prim.Native.Nat.{ℕ, _+_, _-_, _*_, _/_, _%_, _<_, _≤_, min}
-use mathlib.Core.Path.{_≡_}
+use Prim.Native.Nat.{ℕ, _+_, _-_, _*_, _/_, _%_, min}
 use mathlib.Core.Bool.{Bool, true, false, not}
 use lib.Dec.{leb, ltb}
+use lib.ListN.{getD}
 use Rattle.base.specs.Ranges.{pick}
 use Rattle.lines.specs.Record.{most}
 use Rattle.tables.specs.declared.table.Row.{Row}
@@ -11,7 +11,9 @@ use Rattle.tables.specs.declared.table.Mapping.{Mapping}
 use Rattle.maps.specs.declared.halving.Heading.{Heading}
 use Rattle.maps.specs.declared.halving.Hit.{Hit}
 use Rattle.maps.specs.declared.halving.Next.{Next}
-use Rattle.maps.specs.Map.{Search, found, nowhere, holds, sourced, ended, refused}
+use Rattle.maps.specs.declared.mapping.Found.{Found}
+use Rattle.tables.specs.Build.{noRow}
+use Rattle.maps.specs.Map.{Search, found, nowhere, holds, halve, sourced, ended, refused}
 
 -- the numbers beside the rows
 abbrev pub headOf : Table → Heading
@@ -48,9 +50,21 @@ nextOf r lo i hi o k = pick (leb (r .end .0) o) (window (not (holds r o)) (i + 1
 unfoldable pub spanOf : Heading → ℕ → ℕ
 spanOf h o = pick (leb (h .count) most) (pick (leb (h .size) o) 0 (h .count)) 0
 
--- a hit's row holds the offset
-abbrev pub Held : Hit → Row → ℕ → Type 0
-Held hit r o = hit .found ≡ true → (r .start .0 ≤ o) × (o < r .end .0)
+-- where the search of a table for an offset ends
+abbrev pub endOf : Table → ℕ → Search
+endOf t o = halve (spanOf (headOf t) o) (t .rows) 0 (spanOf (headOf t) o) o
+
+-- the row that it ends at
+abbrev pub endRow : Table → ℕ → Row
+endRow t o = getD (t .rows) (hitOf (endOf t o) .row) noRow
+
+-- what was found, in one
+abbrev pub foundBy : Heading → Hit → Row → Found
+foundBy h hit r = record { heading = h; hit = hit; row = r }
+
+-- what the search of a table for an offset finds
+abbrev pub foundOf : Table → ℕ → Found
+foundOf t o = foundBy (headOf t) (hitOf (endOf t o)) (endRow t o)
 
 -- the mapping, once the search has ended
 unfoldable pub answerOf : Heading → Hit → Row → ℕ → ℕ → Mapping

@@ -2,14 +2,11 @@
 use tables::table::Row;
 use tables::table::Table;
 ghost use mathlib.Core.Path.{_≡_};
-ghost use mathlib.Core.Bool.{false, not};
 ghost use Prim.Native.Nat.{_+_, _-_, _<_, _≤_};
 ghost use lib.ListN.{getD};
-ghost use lib.Dec.{leb, ltb};
-ghost use Rattle.base.specs.Ranges.{pick};
 ghost use Rattle.tables.specs.Build.{noRow};
 ghost use Rattle.maps.specs.Map.{nowhere, middle as middleOf, halve};
-ghost use Rattle.maps.specs.Halving.{headOf, upon, packed, unpackOf, nextOf};
+ghost use Rattle.maps.specs.Halving.{headOf, upon, packed, unpackOf, window as windowOf, nextOf};
 
 // The numbers beside the rows.
 pub struct Heading {
@@ -87,47 +84,31 @@ pub(crate) fn unpack(code: usize) -> Hit
     }
 }
 
-// 1 where a row's end is at or below the offset, and 0 where not.
-fn past(end: u64, offset: u64) -> usize
-    ensures { λ r. ⌜ r ≡ pick (leb end offset) 1 0 ⌝ }
+// The window from lo up to hi after a look at row mid, and the answer if that row holds the offset.
+fn window(more: bool, lo: usize, hi: usize, mid: usize, looked: usize) -> Next
+    requires { ⌜ (mid < 128) × (looked < 128) ⌝ }
+    ensures { λ r. ⌜ r ≡ windowOf more lo hi mid looked ⌝ }
 {
-    if end <= offset { 1 } else { 0 }
+    Next {
+        more,
+        lo,
+        hi,
+        looked: looked + 1,
+        code: (looked + 1) * 4096 + (mid + 1),
+    }
 }
 
-// How far a row reaches.
-fn reach(start: u64, end: u64) -> u64
-    ensures { λ r. ⌜ r ≡ end - start ⌝ }
-{
-    if start <= end { end - start } else { 0 }
-}
-
-// Whether a row does not hold the offset: by one test, which fails at most rows, so that the processor foresees it.
-fn goes_on(start: u64, end: u64, offset: u64) -> bool
-    ensures { λ r. ⌜ r ≡ not (pick (leb start offset) (ltb offset end) false) ⌝ }
-{
-    let within = std::num::wrapping_sub_u64(offset, start);
-    let long = reach(start, end);
-    long <= within
-}
-
-// The window after a look at its middle row. It has no branch on which half is taken, since no processor foresees that.
+// After a look at row mid of lo up to hi: the rows after it, or those before it, or none where it holds the offset.
 fn decide(row: Row, lo: usize, mid: usize, hi: usize, offset: u64, looked: usize) -> Next
-    requires { ⌜ (lo < hi) × ((mid ≡ middleOf lo hi) × ((hi ≤ 128) × (looked < 128))) ⌝ }
+    requires { ⌜ (mid < 128) × (looked < 128) ⌝ }
     ensures { λ r. ⌜ r ≡ nextOf row lo mid hi offset looked ⌝ }
 {
     let start = row.start.0;
     let end = row.end.0;
-    let after = past(end, offset);
-    let more = goes_on(start, end, offset);
-    let los = [lo, mid + 1];
-    let low = los[after];
-    Next {
-        more,
-        lo: low,
-        hi: low + (hi - lo - after) / 2,
-        looked: looked + 1,
-        code: (looked + 1) * 4096 + (mid + 1),
+    if end <= offset {
+        return window(true, mid + 1, hi, mid, looked);
     }
+    window(offset < start, lo, mid, mid, looked)
 }
 
 // The row that holds the offset, among those from lo up to hi; it calls itself on the half that is left. By hand.

@@ -9,9 +9,16 @@ use tables::table::ShallowMapping;
 use tables::table::Source;
 use tables::table::Table;
 ghost use mathlib.Core.Path.{_≡_};
-ghost use Prim.Native.Nat.{min};
+ghost use Prim.Native.Nat.{_-_, min};
 ghost use Rattle.maps.specs.Map.{ended, refused, writable, sourced, mapOf};
-ghost use Rattle.maps.specs.Halving.{spanOf, Held, answerOf};
+ghost use Rattle.maps.specs.Halving.{spanOf, foundBy, foundOf, answerOf};
+
+// What a search of a table found: the numbers beside the rows, where it ended, and the row there.
+pub struct Found {
+    pub heading: Heading,
+    pub hit: Hit,
+    pub row: Row,
+}
 
 // How many rows there are to search: none where the answer does not depend on them.
 fn span(h: Heading, offset: u64) -> usize
@@ -23,6 +30,25 @@ fn span(h: Heading, offset: u64) -> usize
         }
     }
     0
+}
+
+// What was found, in one.
+fn as_found(heading: Heading, hit: Hit, row: Row) -> Found
+    ensures { λ r. ⌜ r ≡ foundBy heading hit row ⌝ }
+{
+    Found { heading, hit, row }
+}
+
+// The search of a table for an offset of the disk. By hand.
+pub fn find(t: &Table, offset: u64) -> Found
+    ensures { λ r. ⌜ r ≡ foundOf (now (t .entry)) offset ⌝ }
+{
+    let h = halving::head(t);
+    let hi = span(h, offset);
+    let code = halving::search(t, 0, hi, offset, 0);
+    let hit = halving::unpack(code);
+    let row = halving::row_at(t, hit.row);
+    as_found(h, hit, row)
 }
 
 // A refusal: run 0.
@@ -66,6 +92,13 @@ fn least(a: u64, b: u64) -> u64
     if a < b { a } else { b }
 }
 
+// How far one place lies beyond another: 0 where it does not.
+fn beyond(a: u64, b: u64) -> u64
+    ensures { λ r. ⌜ r ≡ a - b ⌝ }
+{
+    if b <= a { a - b } else { 0 }
+}
+
 // What the row's source has, at a place within the row.
 fn by_source(source: Source, row: usize, within: u64, run: u64, looked: usize) -> Mapping
     ensures { λ r. ⌜ r ≡ sourced source row within run looked ⌝ }
@@ -97,8 +130,7 @@ fn by_source(source: Source, row: usize, within: u64, run: u64, looked: usize) -
 }
 
 // The mapping, once the search has ended.
-fn answer(h: Heading, hit: Hit, row: Row, offset: u64, max_length: u64) -> Mapping
-    requires { ⌜ Held hit row offset ⌝ }
+pub fn answer(h: Heading, hit: Hit, row: Row, offset: u64, max_length: u64) -> Mapping
     ensures { λ r. ⌜ r ≡ answerOf h hit row offset «max_length» ⌝ }
 {
     if 128 < h.count {
@@ -111,9 +143,9 @@ fn answer(h: Heading, hit: Hit, row: Row, offset: u64, max_length: u64) -> Mappi
         let start = row.start.0;
         let end = row.end.0;
         let source = row.source;
-        let left = least(h.size - offset, end - offset);
+        let left = least(h.size - offset, beyond(end, offset));
         let run = least(max_length, left);
-        return by_source(source, hit.row, offset - start, run, hit.looked);
+        return by_source(source, hit.row, beyond(offset, start), run, hit.looked);
     }
     end_of_file(hit.looked)
 }
@@ -122,10 +154,6 @@ fn answer(h: Heading, hit: Hit, row: Row, offset: u64, max_length: u64) -> Mappi
 pub fn get_mapping(t: &Table, offset: u64, max_length: u64) -> Mapping
     ensures { λ r. ⌜ r ≡ mapOf (now (t .entry)) offset «max_length» ⌝ }
 {
-    let h = halving::head(t);
-    let hi = span(h, offset);
-    let code = halving::search(t, 0, hi, offset, 0);
-    let hit = halving::unpack(code);
-    let row = halving::row_at(t, hit.row);
-    answer(h, hit, row, offset, max_length)
+    let f = find(t, offset);
+    answer(f.heading, f.hit, f.row, offset, max_length)
 }

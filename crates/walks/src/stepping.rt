@@ -233,7 +233,8 @@ fn map_at(t: &Table, s: Stand) -> Mark
     ensures { λ r. ⌜ r ≡ mapAt (now (t .entry)) s ⌝ }
 {
     if s.go {
-        let g = mapping::get_mapping(t, s.pos, s.left);
+        let f = mapping::find(t, s.pos);
+        let g = mapping::answer(f.heading, f.hit, f.row, s.pos, s.left);
         return marked(s, g);
     }
     at_end(s)

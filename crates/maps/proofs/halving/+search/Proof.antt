@@ -168,11 +168,11 @@ module _ {M : Type 1} (𝓤 : URA M) (H : Heap 𝓤) (A : Atoms 𝓤) (W : Given
     abbrev to-decide : Decide 𝓤 H A mem run .Ghost
     to-decide = ((tt, tt, tt, (row, (lo, (mid, (hi, (offset, (looked, tt)))))), (vr ∷ [], (vint w64 lo ∷ [], (vint w64 mid ∷ [], (vint w64 hi ∷ [], (vint w64 offset ∷ [], (vint w64 looked ∷ [], tt))))))), tt)
 
-    goes-decide : Is TR.the-row row (vr ∷ []) → (lo < hi) × ((mid ≡ middleOf lo hi) × ((hi ≤ 128) × (looked < 128))) → mid < 2 ^ 64 → ent 𝓤 (emp 𝓤) (Decide 𝓤 H A mem run .pre to-decide)
+    goes-decide : Is TR.the-row row (vr ∷ []) → (mid < 128) × (looked < 128) → mid < 2 ^ 64 → ent 𝓤 (emp 𝓤) (Decide 𝓤 H A mem run .pre to-decide)
     goes-decide is l m =
         asks 𝓤 H A W decide.ended (decide.clauses 𝓤 H A mem run) to-decide (id⊢ 𝓤 _)
         (LL.makes TR.the-type TR′.the-plain 𝓤 H A, (uint-makes 𝓤 H A W w64, (uint-makes 𝓤 H A W w64, (uint-makes 𝓤 H A W w64, (uint-makes 𝓤 H A W w64, (uint-makes 𝓤 H A W w64, tt))))))
-        (is, ((refl, lo-fits), ((refl, m), ((refl, hi-fits), ((refl, offset-fits), ((refl, looked-fits), tt)))))) (guardI 𝓤 ((lo < hi) × ((mid ≡ middleOf lo hi) × ((hi ≤ 128) × (looked < 128)))) (emp 𝓤) l)
+        (is, ((refl, lo-fits), ((refl, m), ((refl, hi-fits), ((refl, offset-fits), ((refl, looked-fits), tt)))))) (guardI 𝓤 ((mid < 128) × (looked < 128)) (emp 𝓤) l)
 
     abbrev to-miss : NoHit 𝓤 H A mem run .Ghost
     to-miss = ((tt, tt, tt, (looked, tt), (vint w64 looked ∷ [], tt)), tt)
@@ -237,7 +237,7 @@ module _ {M : Type 1} (𝓤 : URA M) (H : Heap 𝓤) (A : Atoms 𝓤) (W : Given
           use1 W (later (given (Is TR.the-row row (w₂ ∷ [])) (‵ (flft κ q)))) (answers-held 𝓤 H A W row-at.ended (row-at.clauses 𝓤 H A mem run) to-row (A .lft κ q) (one-alive 𝓤 H A W (A .lft κ q)) row (λ r ws. id⊢ 𝓤 _) w₂) $ await ! tt $ learn ! (λ is-row. move ! (1 ∷ 0 ∷ []) $
           land ! (from ! (stop !)) (init ! 8 refl (LL.lawful TR.the-type TR′.the-laws 𝓤 H A W .typed row _ is-row .0)) $ rewrite ! 8 (λ (u : Val). ‵ (fat fullShare TR′.mir l₇ 0 u)) (ap only (LL.tells TR.the-type TR′.the-laws row _ is-row)) refl $
           -- `decide`
-          use0 W (raw (Decide 𝓤 H A mem run .pre to-decide)) (goes-decide (subst (Is TR.the-row row) (LL.tells TR.the-type TR′.the-laws row _ is-row) is-row) (less, (refl, (asked .0, inside .1))) (omega (arith, inside .0))) $
+          use0 W (raw (Decide 𝓤 H A mem run .pre to-decide)) (goes-decide (subst (Is TR.the-row row) (LL.tells TR.the-type TR′.the-laws row _ is-row) is-row) inside (omega (arith, inside .0))) $
           calls-at ! fm (Decide 𝓤 H A mem run) known-decide to-decide
           (and-then ! (load ! (from ! (stop !)) (look ! 9 refl)) (and-then ! (load ! (from ! (stop !)) (look ! 19 refl)) (and-then ! (load ! (from ! (stop !)) (look ! 11 refl)) (and-then ! (load ! (from ! (stop !)) (look ! 17 refl)) (and-then ! (load ! (from ! (stop !)) (look ! 15 refl)) (and-then ! (load ! (from ! (stop !)) (look ! 13 refl)) (no-more !))))))) (λ w₃.
           use1 W (later (raw (fact 𝓤 (Is TN.the-row n (w₃ ∷ []))))) (answers 𝓤 H A W decide.ended (decide.clauses 𝓤 H A mem run) to-decide n (λ r ws. id⊢ 𝓤 _) w₃) $ await ! tt $ heard ! (Is TN.the-row n (w₃ ∷ [])) (λ is-n′.
