@@ -1,4 +1,4 @@
-//! The time that this thread has run: on a machine that others use too, a pause is not counted.
+//! The time that this thread has run: on a machine that others use too, a pause is not counted. And the processor that it runs on.
 
 /// Seconds and nanoseconds, as the C library has them on 64-bit Linux.
 #[repr(C)]
@@ -13,6 +13,20 @@ const CLOCK_THREAD_CPUTIME_ID: i32 = 3;
 
 extern "C" {
     fn clock_gettime(clock: i32, time: *mut Timespec) -> i32;
+    fn sched_getcpu() -> i32;
+    fn sched_setaffinity(process: i32, size: usize, set: *const u64) -> i32;
+}
+
+/// Stay on the processor that this thread runs on, if the system lets it.
+pub fn pin() {
+    // Safe: the call has no argument
+    let processor = unsafe { sched_getcpu() };
+    if let Ok(processor @ 0..1024) = usize::try_from(processor) {
+        let mut set = [0u64; 16];
+        set[processor / 64] = 1 << (processor % 64);
+        // Safe: the call reads as many bytes as the set has
+        unsafe { sched_setaffinity(0, std::mem::size_of_val(&set), set.as_ptr()) };
+    }
 }
 
 /// The nanoseconds that this thread has run.

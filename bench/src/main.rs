@@ -6,16 +6,15 @@
 
 mod clock;
 mod inputs;
+mod measure;
 #[cfg(ours)]
 mod ours;
 mod rust;
 mod sums;
 
+use measure::Side;
 use rust::Reel;
-
-/// So many rounds for each side, in turns; a round is to take so many nanoseconds.
-const ROUNDS: usize = 25;
-const ROUND: u64 = 8_000_000;
+use std::sync::Arc;
 
 /// A side's work done so many times: a sum over its answers, which must be the other side's.
 type Run = Box<dyn Fn(u64) -> u64>;
@@ -65,9 +64,10 @@ fn works() -> Vec<Work> {
     works
 }
 
-/// A work on a descriptor, for both sides.
+/// A work on a descriptor, for both sides, which read the same bytes.
 fn work(name: String, descriptor: &[u8], doing: Doing) -> Work {
-    let reel = Reel::new(descriptor);
+    let descriptor: Arc<[u8]> = Arc::from(descriptor);
+    let reel = Reel::new(descriptor.clone());
     let rust = Box::new(move |count| match doing {
         Doing::Read => repeat(count, || rust::read(&reel)),
         Doing::Probe => repeat(count, || rust::probe(&reel)),
@@ -83,8 +83,7 @@ fn work(name: String, descriptor: &[u8], doing: Doing) -> Work {
 
 /// Our side of a work.
 #[cfg(ours)]
-fn our_run(descriptor: &[u8], doing: Doing) -> Option<Run> {
-    let descriptor = descriptor.to_vec();
+fn our_run(descriptor: Arc<[u8]>, doing: Doing) -> Option<Run> {
     Some(Box::new(move |count| match doing {
         Doing::Read => repeat(count, || ours::read(&descriptor)),
         Doing::Probe => repeat(count, || ours::probe(&descriptor)),
@@ -95,46 +94,13 @@ fn our_run(descriptor: &[u8], doing: Doing) -> Option<Run> {
 
 /// Our side is not linked.
 #[cfg(not(ours))]
-fn our_run(_descriptor: &[u8], _doing: Doing) -> Option<Run> {
+fn our_run(_descriptor: Arc<[u8]>, _doing: Doing) -> Option<Run> {
     None
 }
 
 /// A function so many times, its answers folded.
 fn repeat(count: u64, answer: impl Fn() -> u64) -> u64 {
     (0..count).fold(0, |sum, _| sums::fold(sum, std::hint::black_box(answer())))
-}
-
-/// The nanoseconds that a run takes.
-fn time(run: &Run, count: u64) -> u64 {
-    let start = clock::nanoseconds();
-    std::hint::black_box(run(count));
-    clock::nanoseconds() - start
-}
-
-/// How many times a run is to be done for a round of the right length.
-fn count_for_round(run: &Run) -> u64 {
-    let mut count = 1;
-    while time(run, count) < ROUND / 2 {
-        count *= 2;
-    }
-    count
-}
-
-/// Time both sides in turns: each side's least nanoseconds for one time, and the middle ones.
-fn measure(work: &Work) -> Vec<[f64; 2]> {
-    let sides: Vec<&Run> = [Some(&work.rust), work.ours.as_ref()].into_iter().flatten().collect();
-    let counts: Vec<u64> = sides.iter().map(|run| count_for_round(run)).collect();
-    let mut times = vec![Vec::new(); sides.len()];
-    for _ in 0..ROUNDS {
-        for (side, run) in sides.iter().enumerate() {
-            times[side].push(time(run, counts[side]));
-        }
-    }
-    let figures = |(mut times, count): (Vec<u64>, u64)| {
-        times.sort();
-        [times[0], times[ROUNDS / 2]].map(|time| time as f64 / count as f64)
-    };
-    times.into_iter().zip(counts).map(figures).collect()
 }
 
 fn main() {
@@ -158,20 +124,33 @@ fn once(side: &str, name: &str, count: u64) {
 
 /// The table of times.
 fn table(part: &str) {
-    println!("| work | Rust, ns | ours, ns | ours / Rust | middle of rounds |");
-    println!("|---|---|---|---|---|");
-    for work in works().iter().filter(|work| work.name.contains(part)) {
+    clock::pin();
+    let works: Vec<Work> = works().into_iter().filter(|work| work.name.contains(part)).collect();
+    for work in &works {
         if let Some(ours) = &work.ours {
             let same = (work.rust)(work.compared) == ours(work.compared);
             assert!(same, "the two sides answer differently: {}", work.name);
         }
-        match measure(work)[..] {
-            [[rust, middle], [ours, our_middle]] => {
-                let (ratio, middles) = (ours / rust, our_middle / middle);
-                println!("| {} | {rust:.1} | {ours:.1} | {ratio:.2} | {middles:.2} |", work.name);
-            }
-            [[rust, middle]] => println!("| {} | {rust:.1} | | | {middle:.1} |", work.name),
-            _ => unreachable!("one side or two"),
+    }
+    let runs =
+        works.iter().map(|work| [Some(&work.rust), work.ours.as_ref()].into_iter().flatten().collect());
+    let measured = measure::measure(runs.collect());
+    println!("| work | Rust, ns | ours, ns | ours / Rust | halves differ: Rust | ours |");
+    println!("|---|---|---|---|---|---|");
+    for (work, sides) in works.iter().zip(&measured) {
+        println!("| {} |{}", work.name, row(sides));
+    }
+}
+
+/// A work's figures, in the table of times.
+fn row(sides: &[Side]) -> String {
+    let percent = |side: &Side| 100.0 * side.apart();
+    match sides {
+        [rust, ours] => {
+            let (a, b) = (rust.nanoseconds(), ours.nanoseconds());
+            format!(" {a:.1} | {b:.1} | {:.2} | {:.1} % | {:.1} % |", b / a, percent(rust), percent(ours))
         }
+        [rust] => format!(" {:.1} | | | {:.1} % | |", rust.nanoseconds(), percent(rust)),
+        _ => unreachable!("one side or two"),
     }
 }

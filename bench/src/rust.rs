@@ -18,8 +18,8 @@ pub struct Reel(Option<Arc<[u8]>>);
 
 impl Reel {
     /// A descriptor.
-    pub fn new(bytes: &[u8]) -> Self {
-        Reel(Some(Arc::from(bytes)))
+    pub fn new(bytes: Arc<[u8]>) -> Self {
+        Reel(Some(bytes))
     }
 }
 
