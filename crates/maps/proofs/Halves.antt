@@ -16,7 +16,7 @@ use Rattle.maps.specs.declared.halving.Hit.{Hit}
 use Rattle.maps.specs.declared.halving.Next.{Next}
 use Rattle.tables.specs.Build.{noRow}
 use Rattle.maps.specs.Map.{Search, found, nowhere, looked, holds, middle, decide, halve, inRow, searchOf, mapOf}
-use Rattle.maps.specs.Halving.{headOf, upon, packed, hitOf, unpackOf, window, nextOf, spanOf, endOf, endRow, answerOf}
+use Rattle.maps.specs.Halving.{headOf, upon, packed, hitOf, unpackOf, window, nextOf, spanOf, endOf, endRow, Held, foundBy, foundOf, answerOf}
 
 -- by cases on a test
 pub pick-elim : {X : Type 0} (P : X → Type 0) (b : Bool) (x y : X) → (b ≡ true → P x) → (b ≡ false → P y) → P (pick b x y)
@@ -234,8 +234,15 @@ row-below rows o bound b (nowhere n) f = omega arith
 pub end-row : (t : Table) (o : ℕ) → hitOf (endOf t o) .row < 128
 end-row t o = row-below (t .rows) o (spanOf (headOf t) o) (span-most (headOf t) o) (endOf t o) (finds t o)
 
+row-held : (rows : List Row) (o bound : ℕ) (s : Search) → Finds rows o bound s → Held (hitOf s) (getD rows (hitOf s .row) noRow) o
+row-held rows o bound (found i n) f = λ _. f .0
+row-held rows o bound (nowhere n) f = λ e. absurd (true≢false (sym e))
+
+pub end-held : (t : Table) (o : ℕ) → Held (hitOf (endOf t o)) (endRow t o) o
+end-held t o = row-held (t .rows) o (spanOf (headOf t) o) (endOf t o) (finds t o)
+
 -- the mapping, as `get_mapping` puts it together
-answer-in : (t : Table) (o asked : ℕ) (s : Search) → leb (t .count) most ≡ true → leb (t .size .0) o ≡ false → answerOf (headOf t) (hitOf s) (getD (t .rows) (hitOf s .row) noRow) o asked ≡ inRow t o asked s
+answer-in : (t : Table) (o asked : ℕ) (s : Search) → leb (t .count) most ≡ true → leb (t .size .0) o ≡ false → answerOf (foundBy (headOf t) (hitOf s) (getD (t .rows) (hitOf s .row) noRow) o) o asked ≡ inRow t o asked s
 unfolding answerOf inRow
 answer-in t o asked (found i n) a b = simp (a, b)
 answer-in t o asked (nowhere n) a b = simp (a, b)
@@ -244,11 +251,11 @@ span-all : (t : Table) (o : ℕ) → leb (t .count) most ≡ true → leb (t .si
 unfolding spanOf
 span-all t o a b = simp (a, b)
 
-answer-late : (t : Table) (o asked : ℕ) (hit : Hit) (r : Row) → leb (t .count) most ≡ true → leb (t .size .0) o ≡ true → answerOf (headOf t) hit r o asked ≡ mapOf t o asked
+answer-late : (t : Table) (o asked : ℕ) (hit : Hit) (r : Row) → leb (t .count) most ≡ true → leb (t .size .0) o ≡ true → answerOf (foundBy (headOf t) hit r o) o asked ≡ mapOf t o asked
 unfolding answerOf mapOf
 answer-late t o asked hit r a b = simp (a, b)
 
-answer-many : (t : Table) (o asked : ℕ) (hit : Hit) (r : Row) → leb (t .count) most ≡ false → answerOf (headOf t) hit r o asked ≡ mapOf t o asked
+answer-many : (t : Table) (o asked : ℕ) (hit : Hit) (r : Row) → leb (t .count) most ≡ false → answerOf (foundBy (headOf t) hit r o) o asked ≡ mapOf t o asked
 unfolding answerOf mapOf
 answer-many t o asked hit r a = simp a
 
@@ -256,7 +263,7 @@ map-in : (t : Table) (o asked : ℕ) → leb (t .count) most ≡ true → leb (t
 unfolding mapOf searchOf
 map-in t o asked a b = simp (a, b)
 
-pub map-is : (t : Table) (o asked : ℕ) → answerOf (headOf t) (hitOf (endOf t o)) (endRow t o) o asked ≡ mapOf t o asked
+pub map-is : (t : Table) (o asked : ℕ) → answerOf (foundOf t o) o asked ≡ mapOf t o asked
 map-is t o asked =
     by-test (leb (t .count) most)
     (λ a. by-test (leb (t .size .0) o) (answer-late t o asked (hitOf (endOf t o)) (endRow t o) a) (λ b.

@@ -19,9 +19,10 @@ use Rattle.tables.specs.declared.table.Mapping.{Mapping}
 use Rattle.maps.specs.declared.halving.Heading.{Heading}
 use Rattle.maps.specs.declared.halving.Hit.{Hit}
 use Rattle.maps.specs.declared.halving.Next.{Next}
+use Rattle.maps.specs.declared.mapping.Found.{Found}
 use Rattle.maps.specs.Map.{found, nowhere, writable, sourced, ended, refused}
 use Rattle.maps.proofs.Halves.{holds-late, holds-early}
-use Rattle.maps.specs.Halving.{hitOf, window, unpackOf, nextOf, spanOf, answerOf}
+use Rattle.maps.specs.Halving.{hitOf, window, unpackOf, nextOf, spanOf, Held, foundBy, answerOf}
 
 module _ (code : ℕ) where
   pub unpack-found : 0 < code % 4096 → hitOf (found (code % 4096 - 1) (code / 4096)) ≡ unpackOf code
@@ -68,20 +69,36 @@ module _ (s : Source) (i within run n : ℕ) where
 
 pub ruleset sources = (source-locked, source-zero, source-far, source-flat, needs)
 
-module _ (h : Heading) (hit : Hit) (r : Row) (o asked : ℕ) {m : Mapping} where
-  pub answer-many : 128 < h .count → m ≡ refused 23 0 → m ≡ answerOf h hit r o asked
+-- a hit's row holds the offset
+module _ (h : Heading) (hit : Hit) (r : Row) (o : ℕ) where
+  pub end-after : Held hit r o → hit .found ≡ true → o ≤ r .end .0
+  end-after g c = omega (arith, g c .1)
+
+  pub start-before : Held hit r o → hit .found ≡ true → r .start .0 ≤ o
+  start-before g c = g c .0
+
+  pub found-row : hit .found ≡ true → record { heading = h; hit = hit; source = r .source; within = o - r .start .0; left = r .end .0 - o } ≡ foundBy h hit r o
+  found-row c = rw c
+
+  pub found-none : hit .found ≡ false → record { heading = h; hit = hit; source = NoAccess; within = 0; left = 0 } ≡ foundBy h hit r o
+  found-none c = rw c
+
+pub ruleset founds = (end-after, start-before, found-row, found-none, needs)
+
+module _ (f : Found) (o asked : ℕ) {m : Mapping} where
+  pub answer-many : 128 < f .heading .count → m ≡ refused 23 0 → m ≡ answerOf f o asked
   unfolding answerOf
   answer-many a q = rw (lt-leb _ _ a, q)
 
-  pub answer-late : h .count ≤ 128 → h .size ≤ o → m ≡ ended 0 → m ≡ answerOf h hit r o asked
+  pub answer-late : f .heading .count ≤ 128 → f .heading .size ≤ o → m ≡ ended 0 → m ≡ answerOf f o asked
   unfolding answerOf
   answer-late a b q = rw (le-leb _ _ a, le-leb _ _ b, q)
 
-  pub answer-found : {past left run within : ℕ} → h .count ≤ 128 → o < h .size → hit .found ≡ true → past ≡ r .end .0 - o → left ≡ min (h .size - o) past → run ≡ min asked left → within ≡ o - r .start .0 → m ≡ sourced (r .source) (hit .row) within run (hit .looked) → m ≡ answerOf h hit r o asked
+  pub answer-found : {left run : ℕ} → f .heading .count ≤ 128 → o < f .heading .size → f .hit .found ≡ true → left ≡ min (f .heading .size - o) (f .left) → run ≡ min asked left → m ≡ sourced (f .source) (f .hit .row) (f .within) run (f .hit .looked) → m ≡ answerOf f o asked
   unfolding answerOf
-  answer-found a b c p d e w q = rw (le-leb _ _ a, lt-leb _ _ b, c, ← p, ← d, ← e, ← w, q)
+  answer-found a b c d e q = rw (le-leb _ _ a, lt-leb _ _ b, c, ← d, ← e, q)
 
-  pub answer-none : h .count ≤ 128 → o < h .size → hit .found ≡ false → m ≡ ended (hit .looked) → m ≡ answerOf h hit r o asked
+  pub answer-none : f .heading .count ≤ 128 → o < f .heading .size → f .hit .found ≡ false → m ≡ ended (f .hit .looked) → m ≡ answerOf f o asked
   unfolding answerOf
   answer-none a b c q = rw (le-leb _ _ a, lt-leb _ _ b, c, q)
 

@@ -1,11 +1,13 @@
 -- How the code goes through a search and maps: the window after a look, a search's end as one number, and the mapping from what was found.
-use Prim.Native.Nat.{ℕ, _+_, _-_, _*_, _/_, _%_, min}
+use Prim.Native.Nat.{ℕ, _+_, _-_, _*_, _/_, _%_, _<_, _≤_, min}
+use mathlib.Core.Path.{_≡_}
 use mathlib.Core.Bool.{Bool, true, false, not}
 use lib.Dec.{leb, ltb}
 use lib.ListN.{getD}
 use Rattle.base.specs.Ranges.{pick}
 use Rattle.lines.specs.Record.{most}
 use Rattle.tables.specs.declared.table.Row.{Row}
+use Rattle.tables.specs.declared.table.Source.the-variants.{NoAccess}
 use Rattle.tables.specs.declared.table.Table.{Table}
 use Rattle.tables.specs.declared.table.Mapping.{Mapping}
 use Rattle.maps.specs.declared.halving.Heading.{Heading}
@@ -58,18 +60,29 @@ endOf t o = halve (spanOf (headOf t) o) (t .rows) 0 (spanOf (headOf t) o) o
 abbrev pub endRow : Table → ℕ → Row
 endRow t o = getD (t .rows) (hitOf (endOf t o) .row) noRow
 
--- what was found, in one
-abbrev pub foundBy : Heading → Hit → Row → Found
-foundBy h hit r = record { heading = h; hit = hit; row = r }
+-- a hit's row holds the offset
+abbrev pub Held : Hit → Row → ℕ → Type 0
+Held hit r o = hit .found ≡ true → (r .start .0 ≤ o) × (o < r .end .0)
+
+-- what was found, in one: of the row that holds the offset its source, and how much of it lies before the offset and from there on
+abbrev pub foundBy : Heading → Hit → Row → ℕ → Found
+foundBy h hit r o =
+    record {
+      heading = h;
+      hit = hit;
+      source = pick (hit .found) (r .source) NoAccess;
+      within = pick (hit .found) (o - r .start .0) 0;
+      left = pick (hit .found) (r .end .0 - o) 0;
+    }
 
 -- what the search of a table for an offset finds
 abbrev pub foundOf : Table → ℕ → Found
-foundOf t o = foundBy (headOf t) (hitOf (endOf t o)) (endRow t o)
+foundOf t o = foundBy (headOf t) (hitOf (endOf t o)) (endRow t o) o
 
 -- the mapping, once the search has ended
-unfoldable pub answerOf : Heading → Hit → Row → ℕ → ℕ → Mapping
-answerOf h hit r o asked =
-    pick (leb (h .count) most)
-    (pick (leb (h .size) o) (ended 0)
-    (pick (hit .found) (sourced (r .source) (hit .row) (o - r .start .0) (min asked (min (h .size - o) (r .end .0 - o))) (hit .looked)) (ended (hit .looked))))
+unfoldable pub answerOf : Found → ℕ → ℕ → Mapping
+answerOf f o asked =
+    pick (leb (f .heading .count) most)
+    (pick (leb (f .heading .size) o) (ended 0)
+    (pick (f .hit .found) (sourced (f .source) (f .hit .row) (f .within) (min asked (min (f .heading .size - o) (f .left))) (f .hit .looked)) (ended (f .hit .looked))))
     (refused 23 0)

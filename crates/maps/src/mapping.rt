@@ -9,15 +9,18 @@ use tables::table::ShallowMapping;
 use tables::table::Source;
 use tables::table::Table;
 ghost use mathlib.Core.Path.{_≡_};
-ghost use Prim.Native.Nat.{_-_, min};
+ghost use Prim.Native.Nat.{min};
 ghost use Rattle.maps.specs.Map.{ended, refused, writable, sourced, mapOf};
-ghost use Rattle.maps.specs.Halving.{spanOf, foundBy, foundOf, answerOf};
+ghost use Rattle.maps.specs.Halving.{spanOf, Held, foundBy, foundOf, answerOf};
 
-// What a search of a table found: the numbers beside the rows, where it ended, and the row there.
+// What a search of a table found: the numbers beside the rows, where it ended, and of the row that holds the offset its source, and how much
+// of it lies before the offset and how much from there on. Where no row does, that is no access and zeros.
 pub struct Found {
     pub heading: Heading,
     pub hit: Hit,
-    pub row: Row,
+    pub source: Source,
+    pub within: u64,
+    pub left: u64,
 }
 
 // How many rows there are to search: none where the answer does not depend on them.
@@ -33,10 +36,30 @@ fn span(h: Heading, offset: u64) -> usize
 }
 
 // What was found, in one.
-fn as_found(heading: Heading, hit: Hit, row: Row) -> Found
-    ensures { λ r. ⌜ r ≡ foundBy heading hit row ⌝ }
+fn as_found(heading: Heading, hit: Hit, row: Row, offset: u64) -> Found
+    requires { ⌜ Held hit row offset ⌝ }
+    ensures { λ r. ⌜ r ≡ foundBy heading hit row offset ⌝ }
 {
-    Found { heading, hit, row }
+    if hit.found {
+        let start = row.start.0;
+        let end = row.end.0;
+        let source = row.source;
+        return Found {
+            heading,
+            hit,
+            source,
+            within: offset - start,
+            left: end - offset,
+        };
+    }
+    let source = Source::NoAccess;
+    Found {
+        heading,
+        hit,
+        source,
+        within: 0,
+        left: 0,
+    }
 }
 
 // The search of a table for an offset of the disk. By hand.
@@ -48,7 +71,7 @@ pub fn find(t: &Table, offset: u64) -> Found
     let code = halving::search(t, 0, hi, offset, 0);
     let hit = halving::unpack(code);
     let row = halving::row_at(t, hit.row);
-    as_found(h, hit, row)
+    as_found(h, hit, row, offset)
 }
 
 // A refusal: run 0.
@@ -92,13 +115,6 @@ fn least(a: u64, b: u64) -> u64
     if a < b { a } else { b }
 }
 
-// How far one place lies beyond another: 0 where it does not.
-fn beyond(a: u64, b: u64) -> u64
-    ensures { λ r. ⌜ r ≡ a - b ⌝ }
-{
-    if b <= a { a - b } else { 0 }
-}
-
 // What the row's source has, at a place within the row.
 fn by_source(source: Source, row: usize, within: u64, run: u64, looked: usize) -> Mapping
     ensures { λ r. ⌜ r ≡ sourced source row within run looked ⌝ }
@@ -130,9 +146,11 @@ fn by_source(source: Source, row: usize, within: u64, run: u64, looked: usize) -
 }
 
 // The mapping, once the search has ended.
-pub fn answer(h: Heading, hit: Hit, row: Row, offset: u64, max_length: u64) -> Mapping
-    ensures { λ r. ⌜ r ≡ answerOf h hit row offset «max_length» ⌝ }
+pub fn answer(f: Found, offset: u64, max_length: u64) -> Mapping
+    ensures { λ r. ⌜ r ≡ answerOf f offset «max_length» ⌝ }
 {
+    let h = f.heading;
+    let hit = f.hit;
     if 128 < h.count {
         return refuse(23, 0);
     }
@@ -140,12 +158,10 @@ pub fn answer(h: Heading, hit: Hit, row: Row, offset: u64, max_length: u64) -> M
         return end_of_file(0);
     }
     if hit.found {
-        let start = row.start.0;
-        let end = row.end.0;
-        let source = row.source;
-        let left = least(h.size - offset, beyond(end, offset));
+        let source = f.source;
+        let left = least(h.size - offset, f.left);
         let run = least(max_length, left);
-        return by_source(source, hit.row, beyond(offset, start), run, hit.looked);
+        return by_source(source, hit.row, f.within, run, hit.looked);
     }
     end_of_file(hit.looked)
 }
@@ -155,5 +171,5 @@ pub fn get_mapping(t: &Table, offset: u64, max_length: u64) -> Mapping
     ensures { λ r. ⌜ r ≡ mapOf (now (t .entry)) offset «max_length» ⌝ }
 {
     let f = find(t, offset);
-    answer(f.heading, f.hit, f.row, offset, max_length)
+    answer(f, offset, max_length)
 }

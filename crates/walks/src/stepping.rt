@@ -234,7 +234,7 @@ fn map_at(t: &Table, s: Stand) -> Mark
 {
     if s.go {
         let f = mapping::find(t, s.pos);
-        let g = mapping::answer(f.heading, f.hit, f.row, s.pos, s.left);
+        let g = mapping::answer(f, s.pos, s.left);
         return marked(s, g);
     }
     at_end(s)

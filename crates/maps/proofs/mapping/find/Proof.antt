@@ -37,7 +37,7 @@ use denote.Triple.Table.{entered, cited}
 use denote.Triple.Walked.{says, Stays, stay-none, stay-none-ref, walkOf, goes-none, goes-none-ref, Walks, ends-at, walked, walk-meets}
 use denote.Exit.{yes}
 use denote.Signature.{plain}
-use Rattle.maps.specs.Halving.{headOf, upon, packed, hitOf, unpackOf, spanOf, endOf, endRow, foundOf}
+use Rattle.maps.specs.Halving.{headOf, upon, packed, hitOf, unpackOf, spanOf, endOf, endRow, Held, foundOf}
 use Rattle.tables.specs.declared.table.Row.{Row}
 use Rattle.tables.specs.declared.table.Table.{Table}
 use Rattle.maps.specs.declared.halving.Hit.{Hit}
@@ -54,7 +54,7 @@ use Rattle.maps.proofs.mapping.Found as TF
 use Rattle.maps.proofs.mapping.Found.Laws as TF′
 use Rattle.maps.proofs.Plain.{asks, answers}
 use Rattle.maps.proofs.Held.{alive-one, one-alive, own-first, asks-held, answers-held}
-use Rattle.maps.proofs.Halves.{span-most, ranOf, end-back, end-row}
+use Rattle.maps.proofs.Halves.{span-most, ranOf, end-back, end-row, end-held}
 use Rattle.maps.proofs.halving.head as head
 use Rattle.maps.proofs.halving.head.Symbol as head-def
 use Rattle.maps.proofs.halving.head.Symbol.{name as #head}
@@ -202,13 +202,13 @@ module _ {M : Type 1} (𝓤 : URA M) (H : Heap 𝓤) (A : Atoms 𝓤) (W : Given
         (own-first 𝓤 H A W (ShrRef (named 0) κ TT.the-row) (usize ∷ []) x (hit .row, tt) (p ∷ []) (vint w64 (hit .row) ∷ [], tt) (uint-makes 𝓤 H A W w64, tt) ((refl, omega (arith, l)), tt)) (guardI 𝓤 (hit .row < 128) (emp 𝓤) l)
 
     abbrev to-found : AsFound 𝓤 H A mem run .Ghost
-    to-found = ((tt, tt, tt, (headOf t, (hit, (row, tt))), (vd ∷ [], (vh ∷ [], (vr ∷ [], tt)))), tt)
+    to-found = ((tt, tt, tt, (headOf t, (hit, (row, (offset, tt)))), (vd ∷ [], (vh ∷ [], (vr ∷ [], (vint w64 offset ∷ [], tt))))), tt)
 
     goes-found : Is TD.the-row (headOf t) (vd ∷ []) → Is TH.the-row hit (vh ∷ []) → Is TR.the-row row (vr ∷ []) → ent 𝓤 (emp 𝓤) (AsFound 𝓤 H A mem run .pre to-found)
     goes-found is-d is-h is-r =
         asks 𝓤 H A W as-found.ended (as-found.clauses 𝓤 H A mem run) to-found (id⊢ 𝓤 _)
-        (LL.makes TD.the-type TD′.the-plain 𝓤 H A, (LL.makes TH.the-type TH′.the-plain 𝓤 H A, (LL.makes TR.the-type TR′.the-plain 𝓤 H A, tt)))
-        (is-d, (is-h, (is-r, tt))) (id⊢ 𝓤 _)
+        (LL.makes TD.the-type TD′.the-plain 𝓤 H A, (LL.makes TH.the-type TH′.the-plain 𝓤 H A, (LL.makes TR.the-type TR′.the-plain 𝓤 H A, (uint-makes 𝓤 H A W w64, tt))))
+        (is-d, (is-h, (is-r, ((refl, offset-fits), tt)))) (guardI 𝓤 (Held hit row offset) (emp 𝓤) (end-held t offset))
 
     module _ (l₀ l₁ l₂ l₃ l₄ l₅ l₆ l₇ : ℕ) where
       abbrev ref : Ty
@@ -252,7 +252,7 @@ module _ {M : Type 1} (𝓤 : URA M) (H : Heap 𝓤) (A : Atoms 𝓤) (W : Given
           let is-r : Is TR.the-row row (vr ∷ []) = subst (Is TR.the-row row) (LL.tells TR.the-type TR′.the-laws row _ is-r′) is-r′ in
           -- `as_found`
           use0 W (raw (AsFound 𝓤 H A mem run .pre to-found)) (goes-found is-d is-h is-r) $
-          calls-at ! fm (AsFound 𝓤 H A mem run) known-found to-found (and-then ! (load ! (from ! (stop !)) (look ! 11 refl)) (and-then ! (load ! (from ! (stop !)) (look ! 5 refl)) (and-then ! (load ! (from ! (stop !)) (look ! 3 refl)) (no-more !)))) (λ w.
+          calls-at ! fm (AsFound 𝓤 H A mem run) known-found to-found (and-then ! (load ! (from ! (stop !)) (look ! 11 refl)) (and-then ! (load ! (from ! (stop !)) (look ! 5 refl)) (and-then ! (load ! (from ! (stop !)) (look ! 3 refl)) (and-then ! (load ! (from ! (stop !)) (look ! 13 refl)) (no-more !))))) (λ w.
           use1 W (later (raw (fact 𝓤 (Is TF.the-row got (w ∷ []))))) (answers 𝓤 H A W as-found.ended (as-found.clauses 𝓤 H A mem run) to-found got (λ r ws. id⊢ 𝓤 _) w) $ await ! tt $ heard ! (Is TF.the-row got (w ∷ [])) (λ is.
           land ! (from ! (stop !)) (init ! 16 refl (LL.lawful TF.the-type TF′.the-laws 𝓤 H A W .typed got _ is .0)) $
           returns ! (look ! 16 refl) $ forget ! 2 refl $ forget ! 4 refl $ forget ! 6 refl $ forget ! 8 refl $ forget ! 10 refl $ forget ! 12 refl $ forget ! 14 refl $ forget ! 16 refl $

@@ -16,8 +16,7 @@ use ghost.Atoms.{Atoms, sem}
 use contract.Monad.{Fun, fact}
 use contract.Running.{givenOf, tables, tablesOf}
 use types.Kit.{Given, ‵, raw, later, given, _⊛_, Sq, runs as runsᴹ, atRet, _$_, _∵_, !, qed, by, move, keep, use0, use1, use2, split, join, rewrite, learn, fsplit, fjoin, suffices, frame, await, done}
-use types.Run.{look, init, forget, stop, fld, from, load, and-then, no-more, land, returns, enter, alloc1, alloc0, params1, pass1, pass0, free1, free0}
-use types.Part.{whole, sub, look-in}
+use types.Run.{look, init, forget, stop, from, load, and-then, no-more, land, returns, enter, alloc1, alloc0, params1, pass1, pass0, free1, free0}
 use sound.WpLaws.{FmC, fmOf, WpFn-mono}
 use denote.RattleType.{owns}
 use denote.Memory.{pointee}
@@ -40,14 +39,8 @@ use Rattle.maps.specs.Halving.{foundOf, answerOf}
 use Rattle.tables.specs.declared.table.Table.{Table}
 use Rattle.maps.specs.declared.mapping.Found.{Found}
 use Rattle.tables.specs.declared.table.Mapping.{Mapping}
-use Rattle.tables.proofs.table.Row as TR
-use Rattle.tables.proofs.table.Row.Laws as TR′
 use Rattle.tables.proofs.table.Table as TT
 use Rattle.tables.proofs.table.Table.Laws as TT′
-use Rattle.maps.proofs.halving.Heading as TD
-use Rattle.maps.proofs.halving.Heading.Laws as TD′
-use Rattle.maps.proofs.halving.Hit as TH
-use Rattle.maps.proofs.halving.Hit.Laws as TH′
 use Rattle.maps.proofs.mapping.Found as TF
 use Rattle.maps.proofs.mapping.Found.Laws as TF′
 use Rattle.tables.proofs.table.Mapping as TM
@@ -117,17 +110,8 @@ module _ {M : Type 1} (𝓤 : URA M) (H : Heap 𝓤) (A : Atoms 𝓤) (W : Given
     abbrev vf : Val
     vf = LL.val TF.the-type TF′.the-laws f
 
-    abbrev vd : Val
-    vd = LL.val TD.the-type TD′.the-laws (f .heading)
-
-    abbrev vh : Val
-    vh = LL.val TH.the-type TH′.the-laws (f .hit)
-
-    abbrev vr : Val
-    vr = LL.val TR.the-type TR′.the-laws (f .row)
-
     abbrev got : Mapping
-    got = answerOf (f .heading) (f .hit) (f .row) offset length
+    got = answerOf f offset length
 
     -- what each callee's triple binds outside, and that what it is asked is there
     abbrev to-find : Find 𝓤 H A mem run .Ghost
@@ -139,14 +123,12 @@ module _ {M : Type 1} (𝓤 : URA M) (H : Heap 𝓤) (A : Atoms 𝓤) (W : Given
         (own-first 𝓤 H A W (ShrRef (named 0) κ TT.the-row) (u64 ∷ []) x (offset, tt) (p ∷ []) (vint w64 offset ∷ [], tt) (uint-makes 𝓤 H A W w64, tt) ((refl, offset-fits), tt)) (id⊢ 𝓤 _)
 
     abbrev to-answer : Answer 𝓤 H A mem run .Ghost
-    to-answer = ((tt, tt, tt, (f .heading, (f .hit, (f .row, (offset, (length, tt))))), (vd ∷ [], (vh ∷ [], (vr ∷ [], (vint w64 offset ∷ [], (vint w64 length ∷ [], tt)))))), tt)
+    to-answer = ((tt, tt, tt, (f, (offset, (length, tt))), (vf ∷ [], (vint w64 offset ∷ [], (vint w64 length ∷ [], tt)))), tt)
 
     goes-answer : Is TF.the-row f (vf ∷ []) → ent 𝓤 (emp 𝓤) (Answer 𝓤 H A mem run .pre to-answer)
     goes-answer is =
-        let owed = LL.owed TF.the-type TF′.the-laws f _ is in
-        asks 𝓤 H A W answer.ended (answer.clauses 𝓤 H A mem run) to-answer (id⊢ 𝓤 _)
-        (LL.makes TD.the-type TD′.the-plain 𝓤 H A, (LL.makes TH.the-type TH′.the-plain 𝓤 H A, (LL.makes TR.the-type TR′.the-plain 𝓤 H A, (uint-makes 𝓤 H A W w64, (uint-makes 𝓤 H A W w64, tt)))))
-        (owed .0, (owed .1 .0, (owed .1 .1 .0, ((refl, offset-fits), ((refl, length-fits), tt))))) (id⊢ 𝓤 _)
+        asks 𝓤 H A W answer.ended (answer.clauses 𝓤 H A mem run) to-answer (id⊢ 𝓤 _) (LL.makes TF.the-type TF′.the-plain 𝓤 H A, (uint-makes 𝓤 H A W w64, (uint-makes 𝓤 H A W w64, tt)))
+        (is, ((refl, offset-fits), ((refl, length-fits), tt))) (id⊢ 𝓤 _)
 
     module _ (l₀ l₁ l₂ l₃ l₄ : ℕ) where
       abbrev ref : Ty
@@ -166,7 +148,7 @@ module _ {M : Type 1} (𝓤 : URA M) (H : Heap 𝓤) (A : Atoms 𝓤) (W : Given
           -- `answer`
           use0 W (raw (Answer 𝓤 H A mem run .pre to-answer)) (goes-answer (subst (Is TF.the-row f) (LL.tells TF.the-type TF′.the-laws f _ is-f) is-f)) $
           calls-at ! fm (Answer 𝓤 H A mem run) known-answer to-answer
-          (and-then ! (load ! (from ! (fld ! refl (stop !))) (look-in ! 3 (sub ! 0 refl (whole !)))) (and-then ! (load ! (from ! (fld ! refl (stop !))) (look-in ! 3 (sub ! 1 refl (whole !)))) (and-then ! (load ! (from ! (fld ! refl (stop !))) (look-in ! 3 (sub ! 2 refl (whole !)))) (and-then ! (load ! (from ! (stop !)) (look ! 7 refl)) (and-then ! (load ! (from ! (stop !)) (look ! 5 refl)) (no-more !)))))) (λ w.
+          (and-then ! (load ! (from ! (stop !)) (look ! 3 refl)) (and-then ! (load ! (from ! (stop !)) (look ! 7 refl)) (and-then ! (load ! (from ! (stop !)) (look ! 5 refl)) (no-more !)))) (λ w.
           use1 W (later (raw (fact 𝓤 (Is TM.the-row got (w ∷ []))))) (answers 𝓤 H A W answer.ended (answer.clauses 𝓤 H A mem run) to-answer got (λ r ws. id⊢ 𝓤 _) w) $ await ! tt $ heard ! (Is TM.the-row got (w ∷ [])) (λ is.
           land ! (from ! (stop !)) (init ! 10 refl (LL.lawful TM.the-type TM′.the-laws 𝓤 H A W .typed got _ is .0)) $
           returns ! (look ! 10 refl) $ forget ! 2 refl $ forget ! 4 refl $ forget ! 6 refl $ forget ! 8 refl $ forget ! 10 refl $

@@ -48,12 +48,6 @@ use Rattle.walks.specs.declared.stepping.Stand.{Stand}
 use Rattle.walks.specs.declared.stepping.Mark.{Mark}
 use Rattle.tables.proofs.table.Table as TT
 use Rattle.tables.proofs.table.Table.Laws as TT′
-use Rattle.tables.proofs.table.Row as TR
-use Rattle.tables.proofs.table.Row.Laws as TR′
-use Rattle.maps.proofs.halving.Heading as TD
-use Rattle.maps.proofs.halving.Heading.Laws as TD′
-use Rattle.maps.proofs.halving.Hit as TH
-use Rattle.maps.proofs.halving.Hit.Laws as TH′
 use Rattle.maps.proofs.mapping.Found as TF
 use Rattle.maps.proofs.mapping.Found.Laws as TF′
 use Rattle.tables.proofs.table.Mapping as TG
@@ -156,17 +150,8 @@ module _ {M : Type 1} (𝓤 : URA M) (H : Heap 𝓤) (A : Atoms 𝓤) (W : Given
     abbrev vf : Val
     vf = LL.val TF.the-type TF′.the-laws f
 
-    abbrev vd : Val
-    vd = LL.val TD.the-type TD′.the-laws (f .heading)
-
-    abbrev vh : Val
-    vh = LL.val TH.the-type TH′.the-laws (f .hit)
-
-    abbrev vr : Val
-    vr = LL.val TR.the-type TR′.the-laws (f .row)
-
     abbrev got : Mapping
-    got = answerOf (f .heading) (f .hit) (f .row) (s .pos) (s .left)
+    got = answerOf f (s .pos) (s .left)
 
     abbrev g : Mapping
     g = mapOf t (s .pos) (s .left)
@@ -191,15 +176,13 @@ module _ {M : Type 1} (𝓤 : URA M) (H : Heap 𝓤) (A : Atoms 𝓤) (W : Given
         (own-first 𝓤 H A W (ShrRef (named 0) κ TT.the-row) (u64 ∷ []) x (s .pos, tt) (p ∷ []) (vint w64 (s .pos) ∷ [], tt) (uint-makes 𝓤 H A W w64, tt) ((refl, owed .1 .1 .0 .1), tt)) (id⊢ 𝓤 _)
 
     abbrev to-answer : Answer 𝓤 H A mem run .Ghost
-    to-answer = ((tt, tt, tt, (f .heading, (f .hit, (f .row, (s .pos, (s .left, tt))))), (vd ∷ [], (vh ∷ [], (vr ∷ [], (vint w64 (s .pos) ∷ [], (vint w64 (s .left) ∷ [], tt)))))), tt)
+    to-answer = ((tt, tt, tt, (f, (s .pos, (s .left, tt))), (vf ∷ [], (vint w64 (s .pos) ∷ [], (vint w64 (s .left) ∷ [], tt)))), tt)
 
     goes-answer : Is TF.the-row f (vf ∷ []) → ent 𝓤 (emp 𝓤) (Answer 𝓤 H A mem run .pre to-answer)
     goes-answer is =
-        let owed = LL.owed TF.the-type TF′.the-laws f _ is in
-        let owed-s = LL.owed TS.the-type TS′.the-laws s _ is-s in
-        asks 𝓤 H A W answer.ended (answer.clauses 𝓤 H A mem run) to-answer (id⊢ 𝓤 _)
-        (LL.makes TD.the-type TD′.the-plain 𝓤 H A, (LL.makes TH.the-type TH′.the-plain 𝓤 H A, (LL.makes TR.the-type TR′.the-plain 𝓤 H A, (uint-makes 𝓤 H A W w64, (uint-makes 𝓤 H A W w64, tt)))))
-        (owed .0, (owed .1 .0, (owed .1 .1 .0, ((refl, owed-s .1 .1 .0 .1), ((refl, owed-s .1 .1 .1 .0 .1), tt))))) (id⊢ 𝓤 _)
+        let owed = LL.owed TS.the-type TS′.the-laws s _ is-s in
+        asks 𝓤 H A W answer.ended (answer.clauses 𝓤 H A mem run) to-answer (id⊢ 𝓤 _) (LL.makes TF.the-type TF′.the-plain 𝓤 H A, (uint-makes 𝓤 H A W w64, (uint-makes 𝓤 H A W w64, tt)))
+        (is, ((refl, owed .1 .1 .0 .1), ((refl, owed .1 .1 .1 .0 .1), tt))) (id⊢ 𝓤 _)
 
     abbrev to-marked : Marked 𝓤 H A mem run .Ghost
     to-marked = ((tt, tt, tt, (s, (g, tt)), (vs ∷ [], (vg ∷ [], tt))), tt)
@@ -247,7 +230,7 @@ module _ {M : Type 1} (𝓤 : URA M) (H : Heap 𝓤) (A : Atoms 𝓤) (W : Given
           -- `answer`
           use0 W (raw (Answer 𝓤 H A mem run .pre to-answer)) (goes-answer (subst (Is TF.the-row f) (LL.tells TF.the-type TF′.the-laws f _ is-f) is-f)) $
           calls-at ! fm (Answer 𝓤 H A mem run) known-answer to-answer
-          (and-then ! (load ! (from ! (fld ! refl (stop !))) (look-in ! 7 (sub ! 0 refl (whole !)))) (and-then ! (load ! (from ! (fld ! refl (stop !))) (look-in ! 7 (sub ! 1 refl (whole !)))) (and-then ! (load ! (from ! (fld ! refl (stop !))) (look-in ! 7 (sub ! 2 refl (whole !)))) (and-then ! (load ! (from ! (fld ! refl (stop !))) (look-in ! 9 (sub ! 2 refl (whole !)))) (and-then ! (load ! (from ! (fld ! refl (stop !))) (look-in ! 9 (sub ! 3 refl (whole !)))) (no-more !)))))) (λ w₂.
+          (and-then ! (load ! (from ! (stop !)) (look ! 7 refl)) (and-then ! (load ! (from ! (fld ! refl (stop !))) (look-in ! 9 (sub ! 2 refl (whole !)))) (and-then ! (load ! (from ! (fld ! refl (stop !))) (look-in ! 9 (sub ! 3 refl (whole !)))) (no-more !)))) (λ w₂.
           use1 W (later (raw (fact 𝓤 (Is TG.the-row got (w₂ ∷ []))))) (answers 𝓤 H A W answer.ended (answer.clauses 𝓤 H A mem run) to-answer got (λ r ws. id⊢ 𝓤 _) w₂) $ await ! tt $ heard ! (Is TG.the-row got (w₂ ∷ [])) (λ is-got.
           let is-g : Is TG.the-row g (w₂ ∷ []) = subst (λ (y : Mapping). Is TG.the-row y (w₂ ∷ [])) (map-is t (s .pos) (s .left)) is-got in
           land ! (from ! (stop !)) (init ! 4 refl (LL.lawful TG.the-type TG′.the-laws 𝓤 H A W .typed g _ is-g .0)) $ rewrite ! 4 (λ (u : Val). ‵ (fat fullShare TG′.mir l₄ 0 u)) (ap only (LL.tells TG.the-type TG′.the-laws g _ is-g)) refl $
