@@ -135,8 +135,8 @@ fn table(part: &str) {
     let runs =
         works.iter().map(|work| [Some(&work.rust), work.ours.as_ref()].into_iter().flatten().collect());
     let measured = measure::measure(runs.collect());
-    println!("| work | Rust, ns | ours, ns | ours / Rust | halves differ: Rust | ours |");
-    println!("|---|---|---|---|---|---|");
+    println!("| work | Rust, ns | ours, ns | ours / Rust | halves differ: Rust | ours | ratio |");
+    println!("|---|---|---|---|---|---|---|");
     for (work, sides) in works.iter().zip(&measured) {
         println!("| {} |{}", work.name, row(sides));
     }
@@ -144,13 +144,15 @@ fn table(part: &str) {
 
 /// A work's figures, in the table of times.
 fn row(sides: &[Side]) -> String {
-    let percent = |side: &Side| 100.0 * side.apart();
+    let percent = |part: f64| format!("{:.1} %", 100.0 * part);
     match sides {
         [rust, ours] => {
             let (a, b) = (rust.nanoseconds(), ours.nanoseconds());
-            format!(" {a:.1} | {b:.1} | {:.2} | {:.1} % | {:.1} % |", b / a, percent(rust), percent(ours))
+            let ratio = measure::apart([0, 1].map(|half| ours.each(half) / rust.each(half)));
+            let halves = [rust.apart(), ours.apart(), ratio].map(percent).join(" | ");
+            format!(" {a:.1} | {b:.1} | {:.2} | {halves} |", b / a)
         }
-        [rust] => format!(" {:.1} | | | {:.1} % | |", rust.nanoseconds(), percent(rust)),
+        [rust] => format!(" {:.1} | | | {} | | |", rust.nanoseconds(), percent(rust.apart())),
         _ => unreachable!("one side or two"),
     }
 }

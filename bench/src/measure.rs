@@ -44,7 +44,7 @@ impl<'a> Side<'a> {
     }
 
     /// The nanoseconds of one time, from the slices of a half.
-    fn each(&self, half: usize) -> f64 {
+    pub fn each(&self, half: usize) -> f64 {
         self.least[half].saturating_sub(self.none) as f64 / self.count as f64
     }
 
@@ -55,8 +55,13 @@ impl<'a> Side<'a> {
 
     /// By what part the figures of the two halves differ.
     pub fn apart(&self) -> f64 {
-        self.each(0).max(self.each(1)) / self.nanoseconds() - 1.0
+        apart([self.each(0), self.each(1)])
     }
+}
+
+/// By what part two figures differ.
+pub fn apart([a, b]: [f64; 2]) -> f64 {
+    a.max(b) / a.min(b) - 1.0
 }
 
 /// The nanoseconds that a run takes.
