@@ -10,16 +10,17 @@ use lib.Dec.{leb, ltb}
 use borrow.Author.Needs.{needs}
 use borrow.Author.Tests.{le-leb, lt-ltb, le-ltb}
 use Rattle.base.specs.Ranges.{pick}
-use Rattle.unicode.specs.Blank.{blank}
-use Rattle.text.specs.Text.{Text, done, bad, char, textFrom, textAt, sound, dropBlanks, rangeOf, trimText, trimOf, trimmed}
+use Rattle.text.specs.Text.{textFrom, textAt, sound, dropBlanks, trimText, trimOf, trimmed}
 use Rattle.finds.specs.Find.{findFrom, findAt, lineEnd, same, begins}
 use Rattle.finds.specs.Lines.{linesAt}
 use Rattle.numbers.specs.Number.{numberOf}
+use Rattle.text.specs.declared.words.Trimmed.{Trimmed}
+use Rattle.text.specs.declared.words.Trimmed.the-variants.{Range, Wrong}
 use Rattle.finds.specs.declared.find.Place.{Place}
 use Rattle.finds.specs.declared.find.Place.the-variants.{Here, Nowhere}
 use Rattle.numbers.specs.declared.number.Num.{Num}
 use Rattle.numbers.specs.declared.number.Num.the-variants.{Value}
-use Rattle.base.proofs.Flat.{by-test, within-below}
+use Rattle.base.proofs.Flat.{within-below}
 use Rattle.finds.proofs.Finds.{found-within}
 use Rattle.finds.proofs.Parts.{part-rest, take-count}
 use Rattle.finds.proofs.Lines.{line-within, line-step}
@@ -27,7 +28,7 @@ use Rattle.base.specs.Ascii.{ascii}
 use Rattle.lines.specs.Line.{versionLimit}
 use Rattle.lines.specs.Record.{mostBytes}
 use Rattle.descriptor.specs.Read.{leastBytes, sparse}
-use Rattle.probing.specs.Probe.{verdictOf, probeKey, ifText, probeLine, firstAnswer, probeLines, probeAt, probeOf}
+use Rattle.probing.specs.Probe.{verdictOf, probeKey, probeLine, firstAnswer, probeLines, probeAt, probeOf}
 use Rattle.probing.specs.declared.probe.Probed.{Probed}
 use Rattle.probing.specs.declared.probe.Probed.the-variants.{Pass, Answer}
 
@@ -61,29 +62,19 @@ unfolding probeLine probeKey trimOf trimText textAt textFrom sound dropBlanks fi
 probe-empty [] h = refl
 probe-empty (b ∷ r) h = absurd (omega arith)
 
--- trimming leaves a range of what is UTF-8
-text-trims : (x : Text) → sound x ≡ true → (p : Probed) → ifText (rangeOf (dropBlanks x)) p ≡ p
-unfolding sound dropBlanks
-text-trims done h p = refl
-text-trims bad h p = let z : _≡_ {A = ℕ} 0 1 = cc in absurd (omega arith)
-text-trims (char a e c r) h p = by-test (blank c) (λ b. rw b (text-trims r h p)) (λ b. rw b)
-
-module _ (l : List ℕ) {s : Bool} (e : s ≡ sound (textAt l 0)) where
-  pub probe-bad : s ≡ false → Answer false ≡ probeLine l
-  unfolding probeLine trimOf trimText
+module _ (l : List ℕ) {r : Trimmed} (e : r ≡ trimOf l) where
+  pub probe-bad : r ≡ Wrong → Answer false ≡ probeLine l
+  unfolding probeLine
   probe-bad q = rw (← e, q)
 
-  module _ {f : Place} (q : s ≡ true) (m : f ≡ findAt 0x3D l 0) where
-    by-key : probeLine l ≡ probeKey l f
-    unfolding probeLine trimOf trimText
-    by-key = rw (← e, q, m) (text-trims (textAt l 0) (sym e ∙ q) (probeKey l (findAt 0x3D l 0)))
-
+  module _ {a b : ℕ} {f : Place} (q : r ≡ Range a b) (m : f ≡ findAt 0x3D l 0) where
     pub probe-none : f ≡ Nowhere → Pass ≡ probeLine l
-    unfolding probeKey
-    probe-none n = rw (by-key, n)
+    unfolding probeLine probeKey
+    probe-none n = rw (← e, q, ← m, n)
 
     pub probe-some : {i : ℕ} {p : Probed} → f ≡ Here i → p ≡ probeKey l (Here i) → p ≡ probeLine l
-    probe-some n k = rw (by-key, n) k
+    unfolding probeLine
+    probe-some n k = rw (← e, q, ← m, n) k
 
 pub found-below : (b : ℕ) (t : List ℕ) (at : ℕ) {i : ℕ} {f : Place} → f ≡ findAt b t at → f ≡ Here i → i < length t
 found-below b t at e q = found-within b t at (sym e ∙ q) .1

@@ -11,8 +11,9 @@ use finds::find::line_end;
 use finds::find::starts_with;
 use numbers::number::Num;
 use numbers::number::number;
-use text::valid::valid;
+use text::words::Trimmed;
 use text::words::inner;
+use text::words::trim;
 
 // What probing finds on a line: it passes it over, or answers.
 pub enum Probed {
@@ -55,15 +56,17 @@ fn probe_line(l: &[u8]) -> Probed
     if l.len() == 0 {
         return Probed::Pass;
     }
-    let text = valid(l);
-    if text {
-        let p = find_byte(l, 0, 0x3D);
-        match p {
-            Place::Here(i) => return probe_key(l, i),
-            Place::Nowhere => return Probed::Pass,
+    let r = trim(l);
+    match r {
+        Trimmed::Wrong => Probed::Answer(false),
+        Trimmed::Range(_, _) => {
+            let p = find_byte(l, 0, 0x3D);
+            match p {
+                Place::Here(i) => probe_key(l, i),
+                Place::Nowhere => Probed::Pass,
+            }
         }
     }
-    Probed::Answer(false)
 }
 
 // The lines one after the other: the first that answers.

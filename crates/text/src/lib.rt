@@ -1,3 +1,3 @@
 // Whether a text is UTF-8, its trimming, and its words.
-pub mod valid;
+mod valid;
 pub mod words;

@@ -8,6 +8,8 @@ probe-line-spec =
     (tie.spec
     (λ c. search probedLines)
     (λ c κs. search probedLines)
+    (λ c. search probedLines)
+    (λ c. search probedLines)
     (λ c κs. search probedLines)
     (λ c. search probedLines)
     (λ c κs. search probedLines)
