@@ -8,6 +8,9 @@ struct Timespec {
     nanoseconds: i64,
 }
 
+/// So many links has the chain.
+const LINKS: u64 = 20_000;
+
 /// The clock that counts this thread's own time.
 const CLOCK_THREAD_CPUTIME_ID: i32 = 3;
 
@@ -36,4 +39,14 @@ pub fn nanoseconds() -> u64 {
     let status = unsafe { clock_gettime(CLOCK_THREAD_CPUTIME_ID, &mut time) };
     assert_eq!(status, 0);
     time.seconds as u64 * 1_000_000_000 + time.nanoseconds as u64
+}
+
+/// The nanoseconds of a link of a chain: a multiplication and an addition, which wait for the link before, 4 cycles on the processors of
+/// this kind. So it tells how fast the processor runs.
+pub fn link() -> f64 {
+    let start = nanoseconds();
+    let (factor, addend) = std::hint::black_box((6_364_136_223_846_793_005u64, 1_442_695_040_888_963_407u64));
+    let end = (0..LINKS).fold(std::hint::black_box(1u64), |x, _| x.wrapping_mul(factor).wrapping_add(addend));
+    std::hint::black_box(end);
+    (nanoseconds() - start) as f64 / LINKS as f64
 }

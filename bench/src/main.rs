@@ -1,7 +1,8 @@
-//! Times the Rust and our side on the same inputs, in one process, in turns.
+//! Times the Rust and our side on the same inputs, in turns, in one process after the other.
 //!
 //! - `bench [WORDS]`: the table of times, of the works whose names hold WORDS
 //! - `bench list`: the works' names, a line each
+//! - `bench rounds NAMES`: a round of each of these works, in this process: what a link of the clock's chain took, and the figures
 //! - `bench once rust|ours WORK COUNT`: a work alone, so many times, for counting instructions
 
 mod clock;
@@ -12,7 +13,7 @@ mod ours;
 mod rust;
 mod sums;
 
-use measure::Side;
+use measure::Figure;
 use rust::Reel;
 use std::sync::Arc;
 
@@ -109,9 +110,10 @@ fn main() {
     match words[..] {
         ["list"] => works().iter().for_each(|work| println!("{}", work.name)),
         ["once", side, name, count] => once(side, name, count.parse().expect("a number of times")),
+        ["rounds", ref names @ ..] => rounds(names),
         [] => table(""),
         [part] => table(part),
-        _ => panic!("bench [WORDS] | list | once rust|ours WORK COUNT"),
+        _ => panic!("bench [WORDS] | list | rounds NAMES | once rust|ours WORK COUNT"),
     }
 }
 
@@ -122,9 +124,19 @@ fn once(side: &str, name: &str, count: u64) {
     println!("{}", run.expect("our side is not linked")(count));
 }
 
+/// A round of each of some works.
+fn rounds(names: &[&str]) {
+    clock::pin();
+    let works = works();
+    for name in names {
+        let work = works.iter().find(|work| work.name == *name).expect("a work's name");
+        let (link, figures) = measure::round(work);
+        println!("{link}{}", figures.iter().map(|figure| format!(" {figure}")).collect::<String>());
+    }
+}
+
 /// The table of times.
 fn table(part: &str) {
-    clock::pin();
     let works: Vec<Work> = works().into_iter().filter(|work| work.name.contains(part)).collect();
     for work in &works {
         if let Some(ours) = &work.ours {
@@ -132,18 +144,19 @@ fn table(part: &str) {
             assert!(same, "the two sides answer differently: {}", work.name);
         }
     }
-    let runs =
-        works.iter().map(|work| [Some(&work.rust), work.ours.as_ref()].into_iter().flatten().collect());
-    let measured = measure::measure(runs.collect());
+    let (figures, links) = measure::measure(&works);
+    let [fast, slow] = links.map(|link| 4.0 / link);
+    println!("The processor ran at {slow:.2} to {fast:.2} GHz; ns are for 3 GHz.");
+    println!();
     println!("| work | Rust, ns | ours, ns | ours / Rust | halves differ: Rust | ours | ratio |");
     println!("|---|---|---|---|---|---|---|");
-    for (work, sides) in works.iter().zip(&measured) {
+    for (work, sides) in works.iter().zip(&figures) {
         println!("| {} |{}", work.name, row(sides));
     }
 }
 
 /// A work's figures, in the table of times.
-fn row(sides: &[Side]) -> String {
+fn row(sides: &[Figure]) -> String {
     let percent = |part: f64| format!("{:.1} %", 100.0 * part);
     match sides {
         [rust, ours] => {

@@ -13,16 +13,16 @@ use mir.Syntax.{w64}
 use mir.Val.{Fits}
 use borrow.Author.Needs.{needs}
 use borrow.Author.Tests.{le-leb, lt-leb, leb-true, lt-ltb, le-ltb, ltb-true}
-use Rattle.base.specs.Ranges.{pick}
-use Rattle.numbers.specs.Sector.{bytesOf, largest, sectorSize}
-use Rattle.numbers.specs.declared.sector.Sectors.{Sectors}
-use Rattle.numbers.specs.declared.sector.Bytes.{Bytes}
-use Rattle.numbers.specs.declared.sector.ByteCount.{ByteCount}
-use Rattle.numbers.specs.declared.sector.ByteCount.the-variants.{Count, TooLarge}
-use Rattle.base.proofs.Flat.{by-test, within-in, within-below, within-above}
-use Rattle.finds.specs.Lines.{linesAt}
-use Rattle.finds.specs.Find.{lineEnd, begins}
-use Rattle.finds.proofs.Lines.{line-within, line-step}
+use Rattle.text.specs.Ranges.{pick}
+use Rattle.text.specs.Sector.{bytesOf, largest, sectorSize}
+use Rattle.text.specs.declared.sector.Sectors.{Sectors}
+use Rattle.text.specs.declared.sector.Bytes.{Bytes}
+use Rattle.text.specs.declared.sector.ByteCount.{ByteCount}
+use Rattle.text.specs.declared.sector.ByteCount.the-variants.{Count, TooLarge}
+use Rattle.text.proofs.Flat.{by-test, within-in, within-below, within-above}
+use Rattle.text.specs.Lines.{linesAt}
+use Rattle.text.specs.Find.{lineEnd, begins}
+use Rattle.text.proofs.Lines.{line-within, line-step}
 use Rattle.lines.specs.Line.{lineOf, saidAt}
 use Rattle.lines.proofs.Lines.{said-is}
 use Rattle.lines.specs.Record.{most, mostBytes, noExtent, noDesc, descOf, filled, refusal}

@@ -3,12 +3,12 @@ use Prim.Native.Nat.{ℕ, suc, _+_}
 use mathlib.Core.List.{List, [], _∷_, _++_}
 use lib.ListN.{length}
 use lib.Dec.{leb, ltb}
-use Rattle.base.specs.Ranges.{pick, within}
-use Rattle.finds.specs.Find.{begins}
-use Rattle.finds.specs.Lines.{linesOf}
-use Rattle.numbers.specs.Sector.{bytesOf, largest}
-use Rattle.numbers.specs.declared.sector.ByteCount.{ByteCount}
-use Rattle.numbers.specs.declared.sector.ByteCount.the-variants.{Count, TooLarge}
+use Rattle.text.specs.Ranges.{pick, within}
+use Rattle.text.specs.Find.{begins}
+use Rattle.text.specs.Lines.{linesOf}
+use Rattle.text.specs.Sector.{bytesOf, largest}
+use Rattle.text.specs.declared.sector.ByteCount.{ByteCount}
+use Rattle.text.specs.declared.sector.ByteCount.the-variants.{Count, TooLarge}
 use Rattle.lines.specs.Record.{mostBytes, most, noDesc, descOf, recordOf, noRecord, refusal}
 use Rattle.lines.specs.Line.{lineOf}
 use Rattle.lines.specs.declared.line.Setting.{Setting}

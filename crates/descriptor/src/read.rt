@@ -6,8 +6,6 @@ ghost use mathlib.Core.List.{[]};
 ghost use Rattle.lines.specs.Record.{refusal, noDesc, noExtent, filled};
 ghost use Rattle.descriptor.specs.Read.{refusedRead, setOf, checked, readOf};
 ghost use Rattle.descriptor.specs.Array.{heldIn, Tidy, sizesIn, readIn};
-use finds::find::line_end;
-use finds::find::starts_with;
 use lines::line::Said;
 use lines::line::Setting;
 use lines::line::parse_descriptor_line;
@@ -18,8 +16,10 @@ use lines::record::Verdict;
 use lines::record::VmdkDesc;
 use lines::record::VmdkParsedExtent;
 use lines::record::VmdkParsedStorage;
-use numbers::sector::ByteCount;
-use numbers::sector::Sectors;
+use text::find::line_end;
+use text::find::starts_with;
+use text::sector::ByteCount;
+use text::sector::Sectors;
 
 // What reading answers: a record, which is empty where the descriptor is refused.
 pub struct Read {

@@ -6,13 +6,13 @@ use mathlib.Core.Bool.{Bool, true, false}
 use mathlib.Core.Path.{_≡_}
 use lib.ListN.{length, getD}
 use borrow.Author.Needs.{needs}
-use Rattle.base.specs.Ascii.{ascii}
+use Rattle.text.specs.Ascii.{ascii}
 use Rattle.probing.specs.Probe.{probeOf}
 use Rattle.lines.specs.declared.record.Text.{Text}
 use Rattle.lines.specs.declared.record.Refusal.{Refusal}
 use Rattle.lines.specs.declared.record.VmdkAccessType.{VmdkAccessType}
 use Rattle.lines.specs.declared.record.Verdict.the-variants.{Sound, Refused}
-use Rattle.numbers.specs.declared.sector.Bytes.{Bytes}
+use Rattle.text.specs.declared.sector.Bytes.{Bytes}
 use Rattle.tables.specs.Build.{noRow}
 use Rattle.tables.specs.declared.table.Source.{Source}
 use Rattle.tables.specs.declared.table.Source.the-variants.{NoAccess, Zero, Flat}

@@ -5,8 +5,8 @@ use mathlib.Core.List.{List}
 use mathlib.Core.Bool.{Bool, true, false}
 use mathlib.Core.Path.{_≡_}
 use borrow.Author.Needs.{needs}
-use Rattle.finds.specs.Find.{same, begins}
-use Rattle.base.specs.Ascii.{ascii}
+use Rattle.text.specs.Find.{same, begins}
+use Rattle.text.specs.Ascii.{ascii}
 use Rattle.keys.specs.Key.{keyOf, geometryKey}
 use Rattle.keys.specs.declared.key.Key.{Key}
 use Rattle.keys.specs.declared.key.Key.the-variants.{Version, Cid, ParentCid, CreateType, ParentFileNameHint, Geometry, Ddb, Unknown}

@@ -1,9 +1,9 @@
 -- The keys of a descriptor, as they stand in its text.
 use Prim.Native.Nat.{ℕ}
 use mathlib.Core.List.{List}
-use Rattle.base.specs.Ascii.{ascii}
-use Rattle.base.specs.Ranges.{pick}
-use Rattle.finds.specs.Find.{same, begins}
+use Rattle.text.specs.Ascii.{ascii}
+use Rattle.text.specs.Ranges.{pick}
+use Rattle.text.specs.Find.{same, begins}
 use Rattle.keys.specs.declared.key.Key.{Key}
 use Rattle.keys.specs.declared.key.Key.the-variants.{Version, Cid, ParentCid, CreateType, ParentFileNameHint, Geometry, Ddb, Unknown}
 use Rattle.keys.specs.declared.key.Geometry.the-variants.{Sectors, Heads, Cylinders}

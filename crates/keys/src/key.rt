@@ -1,8 +1,8 @@
 // The keys that a descriptor's lines may have.
 ghost use mathlib.Core.Path.{_≡_};
 ghost use Rattle.keys.specs.Key.{keyOf, geometryKey};
-use finds::find::is;
-use finds::find::starts_with;
+use text::find::is;
+use text::find::starts_with;
 
 // A disk geometry value.
 pub enum Geometry {

@@ -10,19 +10,19 @@ use mir.Syntax.{w64}
 use mir.Val.{Fits}
 use borrow.Author.Needs.{needs}
 use Rattle.text.specs.Text.{wordOf}
-use Rattle.finds.specs.Find.{findAt, same}
-use Rattle.numbers.specs.Sector.{sectorsOf}
+use Rattle.text.specs.Find.{findAt, same}
+use Rattle.text.specs.Sector.{sectorsOf}
 use Rattle.text.specs.declared.words.Word.{Word}
 use Rattle.text.specs.declared.words.Word.the-variants.{Found, None}
-use Rattle.finds.specs.declared.find.Place.{Place}
-use Rattle.finds.specs.declared.find.Place.the-variants.{Here, Nowhere}
-use Rattle.numbers.specs.declared.sector.Sectors.{Sectors}
-use Rattle.numbers.specs.declared.sector.SectorCount.{SectorCount}
-use Rattle.numbers.specs.declared.sector.SectorCount.the-variants.{Count as Sectors·Count, Bad as Sectors·Bad}
+use Rattle.text.specs.declared.find.Place.{Place}
+use Rattle.text.specs.declared.find.Place.the-variants.{Here, Nowhere}
+use Rattle.text.specs.declared.sector.Sectors.{Sectors}
+use Rattle.text.specs.declared.sector.SectorCount.{SectorCount}
+use Rattle.text.specs.declared.sector.SectorCount.the-variants.{Count as Sectors·Count, Bad as Sectors·Bad}
 use Rattle.text.proofs.Bounds.{word-within}
-use Rattle.finds.proofs.Finds.{found-within}
-use Rattle.finds.proofs.Parts.{take-count}
-use Rattle.base.specs.Ascii.{ascii}
+use Rattle.text.proofs.Finds.{found-within}
+use Rattle.text.proofs.Parts.{take-count}
+use Rattle.text.specs.Ascii.{ascii}
 use Rattle.lines.specs.Kept.{keptOf}
 use Rattle.lines.specs.Extent.{part, secondOf, thirdOf, threeWords, fileNameOf, fileStartOf, extent, flatLine, noAccessLine, extentLine}
 use Rattle.lines.specs.declared.extent.Second.{Second}

@@ -11,11 +11,11 @@ use mir.Val.{Fits}
 use borrow.Author.Needs.{needs}
 use borrow.Author.Tests.{eq-eqb, ne-eqb, leb-true}
 use Rattle.text.specs.Text.{trimOf}
-use Rattle.finds.specs.Find.{quoted, stripOf}
+use Rattle.text.specs.Find.{quoted, stripOf}
 use Rattle.text.specs.declared.words.Trimmed.{Trimmed}
 use Rattle.text.specs.declared.words.Trimmed.the-variants.{Range, Wrong}
-use Rattle.finds.specs.declared.find.Part.{Part}
-use Rattle.base.proofs.Flat.{by-test}
+use Rattle.text.specs.declared.find.Part.{Part}
+use Rattle.text.proofs.Flat.{by-test}
 use Rattle.text.proofs.Bounds.{trim-within}
 use Rattle.lines.specs.Record.{noText}
 use Rattle.lines.specs.Kept.{keptAt, keptOf, unquotedOf}

@@ -9,12 +9,12 @@ use lib.ListN.{length, take, getD}
 use borrow.Author.Needs.{needs}
 use borrow.Author.Tests.{eq-eqb, ne-eqb, le-leb, lt-leb, lt-ltb, le-ltb}
 use Rattle.text.specs.Text.{textFrom, textAt, sound, dropBlanks, trimText, trimOf, runOf}
-use Rattle.finds.specs.Find.{same}
+use Rattle.text.specs.Find.{same}
 use Rattle.text.specs.declared.words.Trimmed.{Trimmed}
 use Rattle.text.specs.declared.words.Trimmed.the-variants.{Range, Wrong}
 use Rattle.text.proofs.Bounds.{run-within}
-use Rattle.finds.proofs.Parts.{take-count}
-use Rattle.base.specs.Ascii.{ascii}
+use Rattle.text.proofs.Parts.{take-count}
+use Rattle.text.specs.Ascii.{ascii}
 use Rattle.lines.specs.Record.{mostBytes}
 use Rattle.lines.specs.Extent.{part, noAccessLine, extentLine}
 use Rattle.lines.specs.Line.{keyLine, accessWord, accessLine, textLine, lineOf, saidAt}

@@ -9,17 +9,17 @@ use mir.Syntax.{w32}
 use mir.Val.{Fits}
 use borrow.Author.Needs.{needs}
 use Rattle.text.specs.Text.{trimmed}
-use Rattle.finds.specs.Find.{findAt, stripOf}
-use Rattle.numbers.specs.Number.{numberOf}
-use Rattle.numbers.specs.Sector.{largest}
-use Rattle.finds.specs.declared.find.Place.{Place}
-use Rattle.finds.specs.declared.find.Place.the-variants.{Here, Nowhere}
-use Rattle.finds.specs.declared.find.Part.{Part}
-use Rattle.numbers.specs.declared.number.Num.{Num}
-use Rattle.numbers.specs.declared.number.Num.the-variants.{Value, Bad}
-use Rattle.finds.proofs.Finds.{found-within}
-use Rattle.finds.proofs.Parts.{part-rest}
-use Rattle.numbers.proofs.Numerals.{number-out}
+use Rattle.text.specs.Find.{findAt, stripOf}
+use Rattle.text.specs.Number.{numberOf}
+use Rattle.text.specs.Sector.{largest}
+use Rattle.text.specs.declared.find.Place.{Place}
+use Rattle.text.specs.declared.find.Place.the-variants.{Here, Nowhere}
+use Rattle.text.specs.declared.find.Part.{Part}
+use Rattle.text.specs.declared.number.Num.{Num}
+use Rattle.text.specs.declared.number.Num.the-variants.{Value, Bad}
+use Rattle.text.proofs.Finds.{found-within}
+use Rattle.text.proofs.Parts.{part-rest}
+use Rattle.text.proofs.Numerals.{number-out}
 use Rattle.keys.specs.Key.{keyOf}
 use Rattle.lines.specs.Kept.{keptOf, unquotedOf}
 use Rattle.lines.specs.Extent.{part}

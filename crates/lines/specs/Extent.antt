@@ -3,18 +3,18 @@ use Prim.Native.Nat.{ℕ, _+_, _-_}
 use mathlib.Core.List.{List}
 use mathlib.Core.Bool.{Bool, true, false}
 use lib.ListN.{take, drop}
-use Rattle.base.specs.Ranges.{pick}
+use Rattle.text.specs.Ranges.{pick}
 use Rattle.text.specs.Text.{wordOf}
-use Rattle.finds.specs.Find.{findAt, same}
-use Rattle.numbers.specs.Sector.{sectorsOf}
+use Rattle.text.specs.Find.{findAt, same}
+use Rattle.text.specs.Sector.{sectorsOf}
 use Rattle.text.specs.declared.words.Word.{Word}
 use Rattle.text.specs.declared.words.Word.the-variants.{Found, None}
-use Rattle.finds.specs.declared.find.Place.{Place}
-use Rattle.finds.specs.declared.find.Place.the-variants.{Here, Nowhere}
-use Rattle.numbers.specs.declared.sector.Sectors.{Sectors}
-use Rattle.numbers.specs.declared.sector.SectorCount.{SectorCount}
-use Rattle.numbers.specs.declared.sector.SectorCount.the-variants.{Count as Sectors·Count, Bad as Sectors·Bad}
-use Rattle.base.specs.Ascii.{ascii}
+use Rattle.text.specs.declared.find.Place.{Place}
+use Rattle.text.specs.declared.find.Place.the-variants.{Here, Nowhere}
+use Rattle.text.specs.declared.sector.Sectors.{Sectors}
+use Rattle.text.specs.declared.sector.SectorCount.{SectorCount}
+use Rattle.text.specs.declared.sector.SectorCount.the-variants.{Count as Sectors·Count, Bad as Sectors·Bad}
+use Rattle.text.specs.Ascii.{ascii}
 use Rattle.lines.specs.Kept.{keptOf}
 use Rattle.lines.specs.declared.extent.Second.{Second}
 use Rattle.lines.specs.declared.extent.Second.the-variants.{Count, Bad}

@@ -3,12 +3,12 @@ use Prim.Native.Nat.{ℕ, _+_, _-_}
 use mathlib.Core.List.{List}
 use lib.Dec.{eqb}
 use lib.ListN.{take, drop}
-use Rattle.base.specs.Ranges.{pick}
+use Rattle.text.specs.Ranges.{pick}
 use Rattle.text.specs.Text.{trimOf}
-use Rattle.finds.specs.Find.{stripOf}
+use Rattle.text.specs.Find.{stripOf}
 use Rattle.text.specs.declared.words.Trimmed.{Trimmed}
 use Rattle.text.specs.declared.words.Trimmed.the-variants.{Range, Wrong}
-use Rattle.finds.specs.declared.find.Part.{Part}
+use Rattle.text.specs.declared.find.Part.{Part}
 use Rattle.lines.specs.Record.{noText}
 use Rattle.lines.specs.declared.record.Text.{Text}
 

@@ -9,11 +9,11 @@ use crate::record::Text;
 use crate::record::VmdkAccessType;
 use crate::record::VmdkParsedExtent;
 use crate::record::VmdkParsedStorage;
-use finds::find::Place;
-use finds::find::find_byte;
-use finds::find::is;
-use numbers::sector::SectorCount;
-use numbers::sector::Sectors;
+use text::find::Place;
+use text::find::find_byte;
+use text::find::is;
+use text::sector::SectorCount;
+use text::sector::Sectors;
 use text::words::Word;
 use text::words::next_word;
 

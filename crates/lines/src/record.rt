@@ -1,5 +1,5 @@
 // What reading a descriptor gives: its values and its extents, in sectors.
-use numbers::sector::Sectors;
+use text::sector::Sectors;
 
 // A text of the descriptor: its place and its length in bytes. An empty text is place 0, length 0.
 pub struct Text {

@@ -5,7 +5,7 @@ use mathlib.Core.List.{List, [], _∷_}
 use mathlib.Core.Bool.{Bool}
 use mathlib.Core.Path.{_≡_}
 use borrow.Author.Needs.{needs}
-use Rattle.base.specs.Ascii.{ascii}
+use Rattle.text.specs.Ascii.{ascii}
 use Rattle.lines.specs.declared.record.Refusal.{Refusal}
 use Rattle.lines.specs.declared.record.Verdict.the-variants.{Sound, Refused as Stopped}
 use Rattle.maps.specs.Map.{mapOf}

@@ -7,7 +7,7 @@ use mathlib.Core.List.{List}
 use lib.Dec.{T, ltb, leb}
 use lib.ListN.{getD}
 use borrow.Author.Tests.{ltb-true, leb-true, leb-false, le-ltb, lt-ltb}
-use Rattle.base.specs.Ranges.{pick}
+use Rattle.text.specs.Ranges.{pick}
 use Rattle.lines.specs.Record.{most}
 use Rattle.tables.specs.declared.table.Row.{Row}
 use Rattle.tables.specs.declared.table.Table.{Table}

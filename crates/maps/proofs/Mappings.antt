@@ -7,8 +7,8 @@ use mathlib.Core.Bool.{Bool, true, false}
 use lib.Dec.{ltb}
 use borrow.Author.Tests.{le-ltb, lt-ltb, le-leb, lt-leb}
 use borrow.Author.Needs.{needs}
-use Rattle.numbers.specs.Sector.{largest}
-use Rattle.numbers.specs.declared.sector.Bytes.{Bytes}
+use Rattle.text.specs.Sector.{largest}
+use Rattle.text.specs.declared.sector.Bytes.{Bytes}
 use Rattle.lines.specs.declared.record.Text.{Text}
 use Rattle.lines.specs.declared.record.VmdkAccessType.{VmdkAccessType}
 use Rattle.tables.specs.declared.table.Row.{Row}

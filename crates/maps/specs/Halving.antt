@@ -4,7 +4,7 @@ use mathlib.Core.Path.{_≡_}
 use mathlib.Core.Bool.{Bool, true, false, not}
 use lib.Dec.{leb, ltb}
 use lib.ListN.{getD}
-use Rattle.base.specs.Ranges.{pick}
+use Rattle.text.specs.Ranges.{pick}
 use Rattle.lines.specs.Record.{most}
 use Rattle.tables.specs.declared.table.Row.{Row}
 use Rattle.tables.specs.declared.table.Source.the-variants.{NoAccess}

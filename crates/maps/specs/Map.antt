@@ -4,8 +4,8 @@ use mathlib.Core.List.{List}
 use mathlib.Core.Bool.{Bool, true, false}
 use lib.ListN.{getD}
 use lib.Dec.{leb, ltb}
-use Rattle.base.specs.Ranges.{pick}
-use Rattle.numbers.specs.Sector.{largest}
+use Rattle.text.specs.Ranges.{pick}
+use Rattle.text.specs.Sector.{largest}
 use Rattle.lines.specs.Record.{most}
 use Rattle.lines.specs.declared.record.VmdkAccessType.{VmdkAccessType}
 use Rattle.lines.specs.declared.record.VmdkAccessType.the-variants.{RW, RdOnly}

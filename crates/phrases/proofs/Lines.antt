@@ -9,12 +9,12 @@ use mathlib.Core.Path.{_≡_, refl, sym, ap, _∙_}
 use lib.ListN.{length, take, drop, getD, drop-of-length-le, length-drop, length-take, List·getD-eq-default}
 use lib.Seq.{take-all, take-nil, take-suc}
 use borrow.Author.Needs.{needs}
-use Rattle.base.specs.Ascii.{ascii}
+use Rattle.text.specs.Ascii.{ascii}
 use Rattle.lines.specs.declared.record.Text.{Text}
 use Rattle.lines.specs.declared.record.Refusal.{Refusal}
 use Rattle.lines.specs.declared.record.VmdkAccessType.{VmdkAccessType}
 use Rattle.lines.specs.declared.record.VmdkAccessType.the-variants.{RdOnly, RW}
-use Rattle.numbers.specs.declared.sector.Bytes.{Bytes}
+use Rattle.text.specs.declared.sector.Bytes.{Bytes}
 use Rattle.tables.specs.Build.{noRow}
 use Rattle.tables.specs.declared.table.Source.{Source}
 use Rattle.tables.specs.declared.table.Source.the-variants.{NoAccess, Zero, Flat}

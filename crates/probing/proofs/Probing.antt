@@ -9,22 +9,22 @@ use lib.ListN.{length, take, drop}
 use lib.Dec.{leb, ltb}
 use borrow.Author.Needs.{needs}
 use borrow.Author.Tests.{le-leb, lt-ltb, le-ltb}
-use Rattle.base.specs.Ranges.{pick}
+use Rattle.text.specs.Ranges.{pick}
 use Rattle.text.specs.Text.{textFrom, textAt, sound, dropBlanks, trimText, trimOf, trimmed}
-use Rattle.finds.specs.Find.{findFrom, findAt, lineEnd, same, begins}
-use Rattle.finds.specs.Lines.{linesAt}
-use Rattle.numbers.specs.Number.{numberOf}
+use Rattle.text.specs.Find.{findFrom, findAt, lineEnd, same, begins}
+use Rattle.text.specs.Lines.{linesAt}
+use Rattle.text.specs.Number.{numberOf}
 use Rattle.text.specs.declared.words.Trimmed.{Trimmed}
 use Rattle.text.specs.declared.words.Trimmed.the-variants.{Range, Wrong}
-use Rattle.finds.specs.declared.find.Place.{Place}
-use Rattle.finds.specs.declared.find.Place.the-variants.{Here, Nowhere}
-use Rattle.numbers.specs.declared.number.Num.{Num}
-use Rattle.numbers.specs.declared.number.Num.the-variants.{Value}
-use Rattle.base.proofs.Flat.{within-below}
-use Rattle.finds.proofs.Finds.{found-within}
-use Rattle.finds.proofs.Parts.{part-rest, take-count}
-use Rattle.finds.proofs.Lines.{line-within, line-step}
-use Rattle.base.specs.Ascii.{ascii}
+use Rattle.text.specs.declared.find.Place.{Place}
+use Rattle.text.specs.declared.find.Place.the-variants.{Here, Nowhere}
+use Rattle.text.specs.declared.number.Num.{Num}
+use Rattle.text.specs.declared.number.Num.the-variants.{Value}
+use Rattle.text.proofs.Flat.{within-below}
+use Rattle.text.proofs.Finds.{found-within}
+use Rattle.text.proofs.Parts.{part-rest, take-count}
+use Rattle.text.proofs.Lines.{line-within, line-step}
+use Rattle.text.specs.Ascii.{ascii}
 use Rattle.lines.specs.Line.{versionLimit}
 use Rattle.lines.specs.Record.{mostBytes}
 use Rattle.descriptor.specs.Read.{leastBytes, sparse}

@@ -4,18 +4,18 @@ use mathlib.Core.List.{List, [], _∷_}
 use mathlib.Core.Bool.{Bool, true, false}
 use lib.ListN.{length, take, drop}
 use lib.Dec.{ltb}
-use Rattle.base.specs.Ranges.{pick, within}
+use Rattle.text.specs.Ranges.{pick, within}
 use Rattle.text.specs.Text.{trimOf, trimmed}
-use Rattle.finds.specs.Find.{findAt, same, begins}
-use Rattle.finds.specs.Lines.{linesOf, linesAt}
-use Rattle.numbers.specs.Number.{numberOf}
+use Rattle.text.specs.Find.{findAt, same, begins}
+use Rattle.text.specs.Lines.{linesOf, linesAt}
+use Rattle.text.specs.Number.{numberOf}
 use Rattle.text.specs.declared.words.Trimmed.{Trimmed}
 use Rattle.text.specs.declared.words.Trimmed.the-variants.{Range, Wrong}
-use Rattle.finds.specs.declared.find.Place.{Place}
-use Rattle.finds.specs.declared.find.Place.the-variants.{Here, Nowhere}
-use Rattle.numbers.specs.declared.number.Num.{Num}
-use Rattle.numbers.specs.declared.number.Num.the-variants.{Value, Bad}
-use Rattle.base.specs.Ascii.{ascii}
+use Rattle.text.specs.declared.find.Place.{Place}
+use Rattle.text.specs.declared.find.Place.the-variants.{Here, Nowhere}
+use Rattle.text.specs.declared.number.Num.{Num}
+use Rattle.text.specs.declared.number.Num.the-variants.{Value, Bad}
+use Rattle.text.specs.Ascii.{ascii}
 use Rattle.lines.specs.Line.{versionLimit}
 use Rattle.lines.specs.Record.{mostBytes}
 use Rattle.descriptor.specs.Read.{leastBytes, sparse}

@@ -7,7 +7,7 @@ use mathlib.Core.Path.{_≡_, refl}
 use borrow.Author.Needs.{needs}
 use borrow.Author.Tests.{lt-ltb, le-ltb, ltb-false}
 use lib.Dec.{ltb}
-use Rattle.base.proofs.Flat.{by-test}
+use Rattle.text.proofs.Flat.{by-test}
 use Rattle.puts.specs.Put.{Put}
 use Rattle.puts.specs.Decimal.{digit, digitsIn, decimalOf}
 use Rattle.puts.proofs.Puts.{put-then, put-length}

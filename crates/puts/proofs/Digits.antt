@@ -10,11 +10,11 @@ use mathlib.Core.Path.{_≡_, refl, sym, _∙_}
 use lib.ListN.{length, getD, length-append, List·getD-append}
 use borrow.Author.Tests.{ltb-true, ltb-false, le-leb}
 use lib.Dec.{ltb}
-use Rattle.numbers.specs.Number.{digit as isDigit, allDigits, value, numberOf}
-use Rattle.numbers.specs.Sector.{largest}
-use Rattle.numbers.specs.declared.number.Num.the-variants.{Value}
-use Rattle.base.proofs.Flat.{by-test, within-in}
-use Rattle.numbers.proofs.Numerals.{number-in}
+use Rattle.text.specs.Number.{digit as isDigit, allDigits, value, numberOf}
+use Rattle.text.specs.Sector.{largest}
+use Rattle.text.specs.declared.number.Num.the-variants.{Value}
+use Rattle.text.proofs.Flat.{by-test, within-in}
+use Rattle.text.proofs.Numerals.{number-in}
 use Rattle.puts.specs.Decimal.{digit, digitsIn, decimalOf}
 
 -- a digit's byte is one

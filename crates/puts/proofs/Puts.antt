@@ -10,8 +10,8 @@ use lib.Seq.{take-suc, take-all, take-append-seam}
 use lib.Dec.{leb}
 use borrow.Author.Needs.{needs}
 use borrow.Author.Tests.{leb-true, leb-false}
-use Rattle.numbers.specs.Sector.{largest}
-use Rattle.base.proofs.Flat.{by-test}
+use Rattle.text.specs.Sector.{largest}
+use Rattle.text.proofs.Flat.{by-test}
 use Rattle.puts.specs.Put.{pasted, after, Put}
 
 -- ---- a buffer with a text at a place

@@ -4,9 +4,9 @@ use Prim.Native.Nat.{ℕ, _+_, _≤_, _<_}
 use mathlib.Core.List.{List, _++_}
 use mathlib.Core.Path.{_≡_}
 use lib.ListN.{length, getD, take, drop}
-use Rattle.numbers.specs.Number.{numberOf}
-use Rattle.numbers.specs.Sector.{largest}
-use Rattle.numbers.specs.declared.number.Num.the-variants.{Value}
+use Rattle.text.specs.Number.{numberOf}
+use Rattle.text.specs.Sector.{largest}
+use Rattle.text.specs.declared.number.Num.the-variants.{Value}
 use Rattle.puts.specs.Put.{pasted, after}
 use Rattle.puts.specs.Decimal.{decimalOf}
 use Rattle.puts.proofs.Puts.{pasted-length, pasted-join, pasted-whole, pasted-start, after-whole}

@@ -3,7 +3,7 @@ use Prim.Native.Nat.{ℕ, zero, suc, _+_, _≤_, min}
 use mathlib.Core.List.{List, [], _∷_}
 use mathlib.Core.Path.{_≡_}
 use lib.ListN.{length}
-use Rattle.numbers.specs.Sector.{largest}
+use Rattle.text.specs.Sector.{largest}
 
 -- a buffer with a text at a place, as far as there is room; the bytes before and after it stay
 unfoldable pub pasted : List ℕ → ℕ → List ℕ → List ℕ

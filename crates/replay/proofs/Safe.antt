@@ -4,7 +4,7 @@ use Prim.Native.Nat.{ℕ}
 use mathlib.Core.Path.{_≡_, sym}
 use lib.ListN.{length, replicate, length-replicate}
 use borrow.Author.Needs.{needs}
-use Rattle.finds.proofs.Parts.{take-count}
+use Rattle.text.proofs.Parts.{take-count}
 
 pub zeros-long : (n : ℕ) → n ≡ length {A = ℕ} (replicate n 0)
 zeros-long n = sym (length-replicate n 0)

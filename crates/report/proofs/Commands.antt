@@ -8,12 +8,12 @@ use mathlib.Core.Path.{_≡_}
 use lib.ListN.{length}
 use borrow.Author.Needs.{needs}
 use borrow.Author.Tests.{eq-eqb, ne-eqb, le-leb, lt-leb}
-use Rattle.finds.specs.Find.{same}
-use Rattle.numbers.specs.Number.{numberOf}
-use Rattle.numbers.specs.Sector.{largest}
-use Rattle.numbers.specs.declared.number.Num.{Num}
-use Rattle.numbers.specs.declared.number.Num.the-variants.{Value, Bad}
-use Rattle.base.specs.Ascii.{ascii}
+use Rattle.text.specs.Find.{same}
+use Rattle.text.specs.Number.{numberOf}
+use Rattle.text.specs.Sector.{largest}
+use Rattle.text.specs.declared.number.Num.{Num}
+use Rattle.text.specs.declared.number.Num.the-variants.{Value, Bad}
+use Rattle.text.specs.Ascii.{ascii}
 use Rattle.lines.specs.Record.{most}
 use Rattle.puts.specs.Put.{Put}
 use Rattle.phrases.specs.Line.{refusedLine}

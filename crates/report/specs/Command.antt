@@ -3,13 +3,13 @@ use Prim.Native.Nat.{ℕ}
 use mathlib.Core.List.{List, []}
 use lib.ListN.{length}
 use lib.Dec.{leb, eqb}
-use Rattle.base.specs.Ranges.{pick}
-use Rattle.finds.specs.Find.{same}
-use Rattle.numbers.specs.Number.{numberOf}
-use Rattle.numbers.specs.Sector.{largest}
-use Rattle.numbers.specs.declared.number.Num.{Num}
-use Rattle.numbers.specs.declared.number.Num.the-variants.{Value, Bad}
-use Rattle.base.specs.Ascii.{ascii}
+use Rattle.text.specs.Ranges.{pick}
+use Rattle.text.specs.Find.{same}
+use Rattle.text.specs.Number.{numberOf}
+use Rattle.text.specs.Sector.{largest}
+use Rattle.text.specs.declared.number.Num.{Num}
+use Rattle.text.specs.declared.number.Num.the-variants.{Value, Bad}
+use Rattle.text.specs.Ascii.{ascii}
 use Rattle.lines.specs.Record.{most}
 use Rattle.phrases.specs.Line.{refusedLine}
 use Rattle.disk_lines.specs.Report.{reportOf}

@@ -1,9 +1,9 @@
 // What the program's arguments ask.
 ghost use mathlib.Core.Path.{_≡_};
 ghost use Rattle.report.specs.Command.{rangeOf, placesOf, commandOf};
-use finds::find::is;
-use numbers::number::Num;
-use numbers::number::number;
+use text::find::is;
+use text::number::Num;
+use text::number::number;
 
 // What the program is asked.
 pub enum Command {

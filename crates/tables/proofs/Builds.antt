@@ -14,12 +14,12 @@ use denote.Laws.{Is}
 use denote.Struct.Laws as LL
 use borrow.Author.Tests.{le-leb, lt-leb}
 use borrow.Author.Needs.{needs}
-use Rattle.base.specs.Ranges.{pick}
-use Rattle.numbers.specs.Sector.{bytesOf, largest}
-use Rattle.numbers.specs.declared.sector.Bytes.{Bytes}
-use Rattle.numbers.specs.declared.sector.Sectors.{Sectors}
-use Rattle.numbers.specs.declared.sector.ByteCount.{ByteCount}
-use Rattle.numbers.specs.declared.sector.ByteCount.the-variants.{Count, TooLarge}
+use Rattle.text.specs.Ranges.{pick}
+use Rattle.text.specs.Sector.{bytesOf, largest}
+use Rattle.text.specs.declared.sector.Bytes.{Bytes}
+use Rattle.text.specs.declared.sector.Sectors.{Sectors}
+use Rattle.text.specs.declared.sector.ByteCount.{ByteCount}
+use Rattle.text.specs.declared.sector.ByteCount.the-variants.{Count, TooLarge}
 use Rattle.lines.specs.Record.{noExtent, filled, counted, refusal}
 use Rattle.lines.specs.declared.record.Text.{Text}
 use Rattle.lines.specs.declared.record.Record.{Record}

@@ -3,10 +3,10 @@ use Prim.Native.Nat.{ℕ, suc, _+_}
 use mathlib.Core.List.{List, [], _∷_}
 use lib.ListN.{length}
 use lib.Dec.{leb}
-use Rattle.base.specs.Ranges.{pick}
-use Rattle.numbers.specs.Sector.{bytesOf, largest}
-use Rattle.numbers.specs.declared.sector.ByteCount.{ByteCount}
-use Rattle.numbers.specs.declared.sector.ByteCount.the-variants.{Count, TooLarge}
+use Rattle.text.specs.Ranges.{pick}
+use Rattle.text.specs.Sector.{bytesOf, largest}
+use Rattle.text.specs.declared.sector.ByteCount.{ByteCount}
+use Rattle.text.specs.declared.sector.ByteCount.the-variants.{Count, TooLarge}
 use Rattle.lines.specs.Record.{most, filled, counted, refusal}
 use Rattle.lines.specs.declared.record.Record.{Record}
 use Rattle.lines.specs.declared.record.Verdict.the-variants.{Sound}

@@ -1,11 +1,11 @@
 -- How the code opens an extent: its row, or a refusal's number.
 use Prim.Native.Nat.{ℕ, _+_}
 use lib.Dec.{leb}
-use Rattle.base.specs.Ranges.{pick}
-use Rattle.numbers.specs.Sector.{bytesOf, largest}
-use Rattle.numbers.specs.declared.sector.Sectors.{Sectors}
-use Rattle.numbers.specs.declared.sector.ByteCount.{ByteCount}
-use Rattle.numbers.specs.declared.sector.ByteCount.the-variants.{Count, TooLarge}
+use Rattle.text.specs.Ranges.{pick}
+use Rattle.text.specs.Sector.{bytesOf, largest}
+use Rattle.text.specs.declared.sector.Sectors.{Sectors}
+use Rattle.text.specs.declared.sector.ByteCount.{ByteCount}
+use Rattle.text.specs.declared.sector.ByteCount.the-variants.{Count, TooLarge}
 use Rattle.lines.specs.declared.record.Text.{Text}
 use Rattle.lines.specs.declared.record.VmdkAccessType.{VmdkAccessType}
 use Rattle.lines.specs.declared.record.VmdkParsedExtent.{VmdkParsedExtent}

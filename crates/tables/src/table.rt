@@ -2,7 +2,7 @@
 use lines::record::Text;
 use lines::record::Verdict;
 use lines::record::VmdkAccessType;
-use numbers::sector::Bytes;
+use text::sector::Bytes;
 
 // Where a row's bytes come from.
 pub enum Source {

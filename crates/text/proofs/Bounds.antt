@@ -9,16 +9,16 @@ use lib.ListN.{length, take, drop, length-drop}
 use lib.Dec.{eqb}
 use borrow.Author.Needs.{needs}
 use borrow.Author.Tests.{eqb-false}
-use Rattle.unicode.specs.Utf8.{charOf}
-use Rattle.unicode.specs.Blank.{blank}
+use Rattle.text.specs.Utf8.{charOf}
+use Rattle.text.specs.Blank.{blank}
 use Rattle.text.specs.Text.{Text, done, bad, char, put, textFrom, textAt, alike, sound, dropBlanks, lastEnd, rangeOf, trimText, trimOf, trimmed, runText, runOf, wordOf}
-use Rattle.unicode.specs.declared.utf8.Char.{Char}
-use Rattle.unicode.specs.declared.utf8.Char.the-variants.{Scalar, Bad, End}
+use Rattle.text.specs.declared.utf8.Char.{Char}
+use Rattle.text.specs.declared.utf8.Char.the-variants.{Scalar, Bad, End}
 use Rattle.text.specs.declared.words.Trimmed.{Trimmed}
 use Rattle.text.specs.declared.words.Trimmed.the-variants.{Range, Wrong}
 use Rattle.text.specs.declared.words.Word.{Word}
 use Rattle.text.specs.declared.words.Word.the-variants.{Found, None}
-use Rattle.base.proofs.Flat.{by-test}
+use Rattle.text.proofs.Flat.{by-test}
 use Rattle.text.proofs.Texts.{Fit, fit}
 
 -- the characters follow each other from lo on, and end at or below hi

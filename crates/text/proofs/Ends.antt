@@ -10,17 +10,17 @@ use lib.Seq.{getD-drop}
 use lib.Dec.{leb, ltb, eqb}
 use borrow.Author.Needs.{needs}
 use borrow.Author.Tests.{leb-true, ltb-true, ltb-false, eqb-true, eqb-false}
-use Rattle.base.specs.Ranges.{pick, within}
-use Rattle.unicode.specs.Blank.{blank}
+use Rattle.text.specs.Ranges.{pick, within}
+use Rattle.text.specs.Blank.{blank}
 use Rattle.text.specs.Blocks.{backTo, blankIn}
-use Rattle.unicode.specs.Utf8.{leads, leadOf, tailOf, charBy, charOf, charAt}
+use Rattle.text.specs.Utf8.{leads, leadOf, tailOf, charBy, charOf, charAt}
 use Rattle.text.specs.Text.{textAt, sound, lastEnd}
-use Rattle.unicode.specs.declared.utf8.Lead.{Lead}
-use Rattle.unicode.specs.declared.utf8.Lead.the-variants.{Row as Lead·Row, Never}
-use Rattle.unicode.specs.declared.utf8.Char.{Char}
-use Rattle.unicode.specs.declared.utf8.Char.the-variants.{Scalar, Bad, End}
-use Rattle.base.proofs.Flat.{by-test, within-in, within-below, within-above, Every, look-all}
-use Rattle.unicode.proofs.Chars.{lead-in, char-at, char-end}
+use Rattle.text.specs.declared.utf8.Lead.{Lead}
+use Rattle.text.specs.declared.utf8.Lead.the-variants.{Row as Lead·Row, Never}
+use Rattle.text.specs.declared.utf8.Char.{Char}
+use Rattle.text.specs.declared.utf8.Char.the-variants.{Scalar, Bad, End}
+use Rattle.text.proofs.Flat.{by-test, within-in, within-below, within-above, Every, look-all}
+use Rattle.text.proofs.Chars.{lead-in, char-at, char-end}
 use Rattle.text.proofs.Texts.{wide-at, text-step, text-bad, text-end}
 use Rattle.text.proofs.Passes.{char-low, char-part, end-at}
 

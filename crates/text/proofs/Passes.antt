@@ -12,15 +12,16 @@ use mir.Syntax.{w64}
 use mir.Val.{Fits}
 use borrow.Author.Needs.{needs}
 use borrow.Author.Tests.{ltb-true, ltb-false, leb-true, leb-false, eqb-true, eqb-false}
-use Rattle.text.specs.Blocks.{below, Passed, widthIn}
-use Rattle.unicode.specs.Utf8.{leadOf, tailAt, charOf, charAt}
+use Rattle.text.specs.Blocks.{each, isLow, Passed, widthIn}
+use Rattle.text.specs.Utf8.{leadOf, tailAt, charOf, charAt}
 use Rattle.text.specs.Text.{sound, textAt}
-use Rattle.unicode.specs.declared.utf8.Lead.the-variants.{Row as Lead·Row}
-use Rattle.unicode.specs.declared.utf8.Char.{Char}
-use Rattle.unicode.specs.declared.utf8.Char.the-variants.{Scalar, Bad, End}
-use Rattle.base.proofs.Flat.{by-test, both, unless, within-in}
-use Rattle.finds.proofs.Parts.{part-rest, block-byte, block-long}
-use Rattle.unicode.proofs.Chars.{lead-in, char-at, char-end, tail-read, tail-none}
+use Rattle.text.specs.declared.utf8.Lead.the-variants.{Row as Lead·Row}
+use Rattle.text.specs.declared.utf8.Char.{Char}
+use Rattle.text.specs.declared.utf8.Char.the-variants.{Scalar, Bad, End}
+use Rattle.text.proofs.Flat.{by-test, both, unless, within-in}
+use Rattle.text.proofs.Blocks.{each-one}
+use Rattle.text.proofs.Parts.{part-rest, block-byte, block-long}
+use Rattle.text.proofs.Chars.{lead-in, char-at, char-end, tail-read, tail-none}
 use Rattle.text.proofs.Texts.{Fit, fit, wide-at, next-fits, next-less, text-step, text-bad, text-end}
 
 -- ---- one character
@@ -153,14 +154,8 @@ low-run (suc n) t at h l =
     (join t at (at + n) (at + n + 1) (low-run n t at (omega arith) (λ i k. l i (omega arith)))
     (pass t (at + n) (getD t (at + n) 0) 1 (char-low t (at + n) (omega arith) (l n (omega arith)))))
 
-each-low : (n : ℕ) (l : List ℕ) → below n l ≡ true → (i : ℕ) → i < n → getD l i 0 < 0x80
-unfolding below
-each-low zero l e i h = absurd (omega arith)
-each-low (suc n) l e i h =
-    let q = both (below n l) (ltb (getD l n 0) 0x80) e in
-    by-test (ltb i n)
-    (λ f. each-low n l (q .0) i (ltb-true i n f))
-    (λ f. let g : i ≡ n = omega (arith, ltb-false i n f) in rw g (ltb-true (getD l n 0) 0x80 (q .1)))
+low-one : (l : List ℕ) → each isLow 16 l ≡ true → (i : ℕ) → i < 16 → getD l i 0 < 0x80
+low-one l e i h = ltb-true (getD l i 0) 0x80 (each-one isLow l 16 e i h)
 
 -- Rules of `past_blocks` and `past_low`
 module _ (t : List ℕ) (from at : ℕ) (i : Passed t from at) where
@@ -168,19 +163,19 @@ module _ (t : List ℕ) (from at : ℕ) (i : Passed t from at) where
   pass-low h l = join t from at (at + 1) i (pass t at (getD t at 0) 1 (char-low t at h l))
 
   module _ {last : ℕ} {w : Bool} (l : last ≡ length t - 16) (k : 16 ≤ length t) where
-    pub pass-block : at ≤ last → w ≡ below 16 (take (at + 16 - at) (drop at t)) → w ≡ true → Passed t from (at + 16)
+    pub pass-block : at ≤ last → w ≡ each isLow 16 (take (at + 16 - at) (drop at t)) → w ≡ true → Passed t from (at + 16)
     pass-block h e q =
         join t from at (at + 16) i
         (low-run 16 t at (omega arith)
-        (λ j m. rw (← block-byte t at (at + 16 - at) j (omega arith)) (each-low 16 (take (at + 16 - at) (drop at t)) (sym e ∙ q) j m)))
+        (λ j m. rw (← block-byte t at (at + 16 - at) j (omega arith)) (low-one (take (at + 16 - at) (drop at t)) (sym e ∙ q) j m)))
 
-    pub pass-last : last < at → w ≡ below 16 (take (length t - last) (drop last t)) → w ≡ true → Passed t from (length t)
+    pub pass-last : last < at → w ≡ each isLow 16 (take (length t - last) (drop last t)) → w ≡ true → Passed t from (length t)
     pass-last h e q =
         let g = within t from at i in
         let n : at + (length t - at) ≡ length t = omega arith in
         let r : (j : ℕ) → j < length t - at → getD t (at + j) 0 < 0x80 = λ j m.
         let o : last + (at - last + j) ≡ at + j = omega arith in
-        let v = each-low 16 (take (length t - last) (drop last t)) (sym e ∙ q) (at - last + j) (omega arith) in
+        let v = low-one (take (length t - last) (drop last t)) (sym e ∙ q) (at - last + j) (omega arith) in
         rw (block-byte t last (length t - last) (at - last + j) (omega arith), o) at v in
         join t from at (length t) i (rw n at (low-run (length t - at) t at (omega arith) r))
 

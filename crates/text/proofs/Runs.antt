@@ -7,14 +7,14 @@ use mathlib.Core.Path.{_≡_, refl, sym, _∙_}
 use lib.ListN.{length, getD, take, drop}
 use borrow.Author.Needs.{needs}
 use borrow.Author.Tests.{eq-eqb, ne-eqb}
-use Rattle.base.specs.Ranges.{pick}
-use Rattle.unicode.specs.Utf8.{charAt}
-use Rattle.unicode.specs.Blank.{blank}
+use Rattle.text.specs.Ranges.{pick}
+use Rattle.text.specs.Utf8.{charAt}
+use Rattle.text.specs.Blank.{blank}
 use Rattle.text.specs.Text.{alike, runText, runOf, wordOf}
-use Rattle.unicode.specs.declared.utf8.Char.{Char}
-use Rattle.unicode.specs.declared.utf8.Char.the-variants.{Scalar, Bad, End}
+use Rattle.text.specs.declared.utf8.Char.{Char}
+use Rattle.text.specs.declared.utf8.Char.the-variants.{Scalar, Bad, End}
 use Rattle.text.specs.declared.words.Word.the-variants.{Found, None}
-use Rattle.unicode.proofs.Chars.{char-end}
+use Rattle.text.proofs.Chars.{char-end}
 use Rattle.text.proofs.Texts.{text-step, text-bad, text-end}
 use Rattle.text.proofs.Passes.{char-low, char-part, parts}
 

@@ -10,13 +10,13 @@ use lib.ListN.{length, drop, length-drop}
 use lib.Seq.{drop-drop}
 use mir.Syntax.{w64}
 use mir.Val.{Fits}
-use Rattle.base.specs.Ranges.{pick, within}
-use Rattle.unicode.specs.Utf8.{leadOf, tailOf, charBy, charOf, charAt}
+use Rattle.text.specs.Ranges.{pick, within}
+use Rattle.text.specs.Utf8.{leadOf, tailOf, charBy, charOf, charAt}
 use Rattle.text.specs.Text.{done, bad, char, textFrom, textAt}
-use Rattle.unicode.specs.declared.utf8.Lead.{Lead}
-use Rattle.unicode.specs.declared.utf8.Lead.the-variants.{Row as Lead·Row, Never}
-use Rattle.unicode.specs.declared.utf8.Char.{Char}
-use Rattle.unicode.specs.declared.utf8.Char.the-variants.{Scalar, Bad, End}
+use Rattle.text.specs.declared.utf8.Lead.{Lead}
+use Rattle.text.specs.declared.utf8.Lead.the-variants.{Row as Lead·Row, Never}
+use Rattle.text.specs.declared.utf8.Char.{Char}
+use Rattle.text.specs.declared.utf8.Char.the-variants.{Scalar, Bad, End}
 
 -- ---- a character has a width, and its bytes are there; only where there are no bytes is there an end
 abbrev pub Fit : ℕ → Char → Type 0

@@ -8,14 +8,14 @@ use mathlib.Core.Logic.{_↔_}
 use mathlib.Core.Path.{_≡_, refl, sym, ap, _∙_}
 use lib.ListN.{length}
 use borrow.Author.Needs.{needs}
-use Rattle.base.specs.Ranges.{pick}
-use Rattle.unicode.specs.Utf8.{charAt}
-use Rattle.unicode.specs.Blank.{blank}
-use Rattle.unicode.specs.declared.utf8.Char.the-variants.{Scalar, Bad}
+use Rattle.text.specs.Ranges.{pick}
+use Rattle.text.specs.Utf8.{charAt}
+use Rattle.text.specs.Blank.{blank}
+use Rattle.text.specs.declared.utf8.Char.the-variants.{Scalar, Bad}
 use Rattle.text.specs.Text.{Text, done, bad, char, sound, dropBlanks, lastEnd, rangeOf, trimText, trimOf, textAt, runText, runOf}
 use Rattle.text.specs.declared.words.Trimmed.the-variants.{Range, Wrong}
-use Rattle.base.proofs.Flat.{by-test}
-use Rattle.unicode.proofs.Chars.{char-end}
+use Rattle.text.proofs.Flat.{by-test}
+use Rattle.text.proofs.Chars.{char-end}
 use Rattle.text.proofs.Texts.{text-step, text-bad, text-end}
 use Rattle.text.proofs.Ends.{reading, sound-char}
 

@@ -2,20 +2,28 @@
 -- Only functions that are not exported promise these; what they come to is said by the definitions of Text.
 use Prim.Native.Nat.{ℕ, zero, suc, _≤_}
 use mathlib.Core.List.{List}
-use mathlib.Core.Bool.{Bool, true, false, _&&_}
+use mathlib.Core.Bool.{Bool, true, false, _&&_, not}
 use mathlib.Core.Path.{_≡_}
 use lib.ListN.{length, getD}
-use lib.Dec.{ltb}
-use Rattle.base.specs.Ranges.{pick, within}
-use Rattle.unicode.specs.Blank.{blank}
+use lib.Dec.{ltb, eqb}
+use Rattle.text.specs.Ranges.{pick, within}
+use Rattle.text.specs.Blank.{blank}
 use Rattle.text.specs.Text.{sound, textAt}
-use Rattle.unicode.specs.declared.utf8.Char.{Char}
-use Rattle.unicode.specs.declared.utf8.Char.the-variants.{Scalar, Bad, End}
+use Rattle.text.specs.declared.utf8.Char.{Char}
+use Rattle.text.specs.declared.utf8.Char.the-variants.{Scalar, Bad, End}
 
--- each of the first n bytes is below 80
-unfoldable pub below : ℕ → List ℕ → Bool
-below zero l = true
-below (suc n) l = below n l && ltb (getD l n 0) 0x80
+-- each of the first n bytes passes a test
+unfoldable pub each : (ℕ → Bool) → ℕ → List ℕ → Bool
+each p zero l = true
+each p (suc n) l = each p n l && p (getD l n 0)
+
+-- a byte below 80
+abbrev pub isLow : ℕ → Bool
+isLow x = ltb x 0x80
+
+-- a byte that is not b
+abbrev pub isOther : ℕ → ℕ → Bool
+isOther b x = not (eqb x b)
 
 -- from a up to e there are whole characters: the text is UTF-8 from a on exactly if it is from e on
 unfoldable pub Passed : List ℕ → ℕ → ℕ → Type 0

@@ -1,2 +1,10 @@
+pub mod Ranges
+pub mod Ascii
+pub mod Utf8
+pub mod Blank
+pub mod Find
+pub mod Lines
+pub mod Number
+pub mod Sector
 pub mod Text
 pub mod Blocks

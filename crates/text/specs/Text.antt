@@ -4,11 +4,11 @@ use mathlib.Core.List.{List, [], _∷_}
 use mathlib.Core.Bool.{Bool, true, false}
 use lib.ListN.{take, drop}
 use lib.Dec.{eqb}
-use Rattle.base.specs.Ranges.{pick}
-use Rattle.unicode.specs.Utf8.{charOf}
-use Rattle.unicode.specs.Blank.{blank}
-use Rattle.unicode.specs.declared.utf8.Char.{Char}
-use Rattle.unicode.specs.declared.utf8.Char.the-variants.{Scalar, Bad, End}
+use Rattle.text.specs.Ranges.{pick}
+use Rattle.text.specs.Utf8.{charOf}
+use Rattle.text.specs.Blank.{blank}
+use Rattle.text.specs.declared.utf8.Char.{Char}
+use Rattle.text.specs.declared.utf8.Char.the-variants.{Scalar, Bad, End}
 use Rattle.text.specs.declared.words.Trimmed.{Trimmed}
 use Rattle.text.specs.declared.words.Trimmed.the-variants.{Range, Wrong}
 use Rattle.text.specs.declared.words.Word.{Word}

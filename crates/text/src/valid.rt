@@ -3,33 +3,24 @@ ghost use mathlib.Core.Path.{_≡_};
 ghost use Prim.Native.Nat.{_≤_, _<_};
 ghost use mathlib.Core.Bool.{true};
 ghost use lib.ListN.{length};
-ghost use Rattle.text.specs.Blocks.{below, Passed, widthIn};
-ghost use Rattle.unicode.specs.Utf8.{charAt};
+ghost use Rattle.text.specs.Blocks.{each, isLow, Passed, widthIn};
+ghost use Rattle.text.specs.Utf8.{charAt};
 ghost use Rattle.text.specs.Text.{sound, textAt};
-use unicode::utf8::Char;
-use unicode::utf8::next_char;
+use crate::utf8::Char;
+use crate::utf8::next_char;
 
 // Whether the first 16 bytes are all below 80.
 fn low(t: &[u8]) -> bool
     requires { ⌜ 16 ≤ length (now t) ⌝ }
-    ensures { λ r. ⌜ r ≡ below 16 (now (t .entry)) ⌝ }
+    ensures { λ r. ⌜ r ≡ each isLow 16 (now (t .entry)) ⌝ }
 {
-    (t[0] < 0x80)
-        & (t[1] < 0x80)
-        & (t[2] < 0x80)
-        & (t[3] < 0x80)
-        & (t[4] < 0x80)
-        & (t[5] < 0x80)
-        & (t[6] < 0x80)
-        & (t[7] < 0x80)
-        & (t[8] < 0x80)
-        & (t[9] < 0x80)
-        & (t[10] < 0x80)
-        & (t[11] < 0x80)
-        & (t[12] < 0x80)
-        & (t[13] < 0x80)
-        & (t[14] < 0x80)
-        & (t[15] < 0x80)
+    let mut all = true;
+    let mut i = 0;
+    while i < 16 {
+        all = all & (t[i] < 0x80);
+        i += 1;
+    }
+    all
 }
 
 // Past blocks of 16 bytes below 80, the last of which may overlap the one before it.

@@ -4,12 +4,12 @@ ghost use Prim.Native.Nat.{_-_, _≤_, _<_};
 ghost use mathlib.Core.Bool.{true};
 ghost use lib.ListN.{length};
 ghost use Rattle.text.specs.Blocks.{backTo, blankIn};
-ghost use Rattle.unicode.specs.Utf8.{charAt};
+ghost use Rattle.text.specs.Utf8.{charAt};
 ghost use Rattle.text.specs.Text.{alike, textAt, sound, lastEnd, trimOf, trimmed, runOf, wordOf};
+use crate::blank::is_blank;
+use crate::utf8::Char;
+use crate::utf8::next_char;
 use crate::valid::valid;
-use unicode::blank::is_blank;
-use unicode::utf8::Char;
-use unicode::utf8::next_char;
 
 // The part of a text that trimming leaves, or that the text is no UTF-8.
 pub enum Trimmed {

@@ -1,12 +1,12 @@
 // The answer of each function of the text layer, as three numbers.
-use finds::find::Place;
-use numbers::number::Num;
-use numbers::sector::ByteCount;
-use numbers::sector::SectorCount;
-use numbers::sector::Sectors;
+use text::find::Place;
+use text::number::Num;
+use text::sector::ByteCount;
+use text::sector::SectorCount;
+use text::sector::Sectors;
+use text::utf8::Char;
 use text::words::Trimmed;
 use text::words::Word;
-use unicode::utf8::Char;
 
 // An answer: which of its cases, and the values of that case.
 pub struct Answer {
@@ -43,7 +43,7 @@ fn places(a: usize, b: usize) -> Answer {
 
 // c: the character that a text starts with, its code point and its width.
 fn character(t: &[u8]) -> Answer {
-    let c = unicode::utf8::next_char(t, 0);
+    let c = text::utf8::next_char(t, 0);
     match c {
         Char::Scalar(code, width) => Answer {
             tag: 1,
@@ -57,9 +57,9 @@ fn character(t: &[u8]) -> Answer {
 
 // b: whether that character is a blank.
 fn blank(t: &[u8]) -> Answer {
-    let c = unicode::utf8::next_char(t, 0);
+    let c = text::utf8::next_char(t, 0);
     match c {
-        Char::Scalar(code, _) => yes(unicode::blank::is_blank(code)),
+        Char::Scalar(code, _) => yes(text::blank::is_blank(code)),
         Char::Bad => bare(2),
         Char::End => bare(2),
     }
@@ -85,7 +85,7 @@ fn word(t: &[u8]) -> Answer {
 
 // n and v: the number that a text is, up to 2^64-1 and up to 2^32-1.
 fn number(t: &[u8], limit: u64) -> Answer {
-    let n = numbers::number::number(t, limit);
+    let n = text::number::number(t, limit);
     match n {
         Num::Value(v) => Answer { tag: 1, a: v, b: 0 },
         Num::Bad => bare(0),
@@ -94,7 +94,7 @@ fn number(t: &[u8], limit: u64) -> Answer {
 
 // q: the part within the quotes.
 fn quotes(t: &[u8]) -> Answer {
-    let p = finds::find::strip_quotes(t);
+    let p = text::find::strip_quotes(t);
     places(p.from, p.to)
 }
 
@@ -123,12 +123,12 @@ fn bytes(s: Sectors) -> Answer {
 
 // l: where the first line ends.
 fn line(t: &[u8]) -> Answer {
-    places(0, finds::find::line_end(t, 0))
+    places(0, text::find::line_end(t, 0))
 }
 
 // e: the place of the first `=`.
 fn equals(t: &[u8]) -> Answer {
-    let p = finds::find::find_byte(t, 0, 0x3D);
+    let p = text::find::find_byte(t, 0, 0x3D);
     match p {
         Place::Here(i) => places(i, 0),
         Place::Nowhere => bare(0),
@@ -152,8 +152,8 @@ pub fn ask(kind: &[u8], t: &[u8]) -> Answer {
         b's' => sectors(t),
         b'l' => line(t),
         b'e' => equals(t),
-        b'i' => yes(finds::find::is(t, b"version")),
-        b'd' => yes(finds::find::starts_with(t, b"ddb.")),
+        b'i' => yes(text::find::is(t, b"version")),
+        b'd' => yes(text::find::starts_with(t, b"ddb.")),
         _ => bare(9),
     }
 }

@@ -5,7 +5,7 @@
 mod answers;
 
 use answers::Answer;
-use numbers::number::Num;
+use text::number::Num;
 use text::words::Word;
 
 // A number of a vector's first line, and where it ends.
@@ -26,7 +26,7 @@ fn read_field(d: &[u8], from: usize) -> Field {
     let w = text::words::next_word(d, from);
     match w {
         Word::Found(a, e) => {
-            let n = numbers::number::number(&d[a..e], u64::MAX);
+            let n = text::number::number(&d[a..e], u64::MAX);
             match n {
                 Num::Value(v) => Field { value: v, end: e },
                 Num::Bad => Field { value: 0, end: e },

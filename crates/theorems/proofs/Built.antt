@@ -10,9 +10,9 @@ use lib.ListN.{length, getD, take, replicate, length-take}
 use lib.Seq.{take-all}
 use lib.Dec.{leb}
 use borrow.Author.Tests.{leb-true}
-use Rattle.base.specs.Ranges.{pick}
-use Rattle.numbers.specs.Sector.{bytesOf, largest, sectorSize}
-use Rattle.numbers.specs.declared.sector.Sectors.{Sectors}
+use Rattle.text.specs.Ranges.{pick}
+use Rattle.text.specs.Sector.{bytesOf, largest, sectorSize}
+use Rattle.text.specs.declared.sector.Sectors.{Sectors}
 use Rattle.lines.specs.Record.{most, filled, counted, noExtent, refusal}
 use Rattle.lines.specs.declared.record.Record.{Record}
 use Rattle.lines.specs.declared.record.Verdict.the-variants.{Sound}
@@ -26,7 +26,7 @@ use Rattle.tables.specs.declared.table.Built.{Built}
 use Rattle.tables.specs.Build.{noRow, tableOf, Rows, rows, refused, inBytes, inSource, before, rowsFrom, built, buildOf}
 use Rattle.maps.specs.Place.{bytesIn, sizeOf}
 use Rattle.theorems.specs.Rows.{Builds, sourceOf}
-use Rattle.base.proofs.Flat.{by-test}
+use Rattle.text.proofs.Flat.{by-test}
 
 -- the row of an extent that starts at a place of the disk
 abbrev pub rowOf : ℕ → VmdkParsedExtent → Row

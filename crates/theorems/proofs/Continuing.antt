@@ -16,7 +16,7 @@ use Rattle.walks.specs.Walk.{Walk, ends, walkFrom, walkOf}
 use Rattle.theorems.specs.Rows.{Builds}
 use Rattle.theorems.specs.Tiling.{All}
 use Rattle.theorems.specs.Continuing.{partsOf, placesIn, Continues, ContinuesWhole}
-use Rattle.base.proofs.Flat.{by-test}
+use Rattle.text.proofs.Flat.{by-test}
 use Rattle.theorems.proofs.Rows.{built-in-rows}
 use Rattle.theorems.proofs.Joins.{more-places, walk-of, parts-from, parts-refused, parts-long, long-call}
 use Rattle.theorems.proofs.Enough.{room-enough, all-pieces, room-enough-held}

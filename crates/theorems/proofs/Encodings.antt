@@ -8,16 +8,16 @@ use mathlib.Core.Path.{_≡_, refl, sym, ap, subst, _∙_}
 use lib.Dec.{leb, eqb}
 use lib.ListN.{length, drop}
 use borrow.Author.Tests.{le-leb, lt-leb, leb-true, leb-false, eq-eqb, eqb-true}
-use Rattle.base.specs.Ranges.{look, within}
-use Rattle.finds.specs.Find.{begins}
-use Rattle.unicode.specs.Utf8.{leads, leadOf, tailOf, charBy, charOf}
+use Rattle.text.specs.Ranges.{look, within}
+use Rattle.text.specs.Find.{begins}
+use Rattle.text.specs.Utf8.{leads, leadOf, tailOf, charBy, charOf}
 use Rattle.theorems.specs.Unicode.{scalar, trailing, encode, Stands}
-use Rattle.unicode.specs.declared.utf8.Lead.{Lead}
-use Rattle.unicode.specs.declared.utf8.Lead.the-variants.{Row as Lead·Row, Never}
-use Rattle.unicode.specs.declared.utf8.Char.{Char}
-use Rattle.unicode.specs.declared.utf8.Char.the-variants.{Scalar, Bad, End}
-use Rattle.base.proofs.Flat.{by-test, within-in, within-below, within-above, look-each}
-use Rattle.unicode.proofs.Chars.{lead-in}
+use Rattle.text.specs.declared.utf8.Lead.{Lead}
+use Rattle.text.specs.declared.utf8.Lead.the-variants.{Row as Lead·Row, Never}
+use Rattle.text.specs.declared.utf8.Char.{Char}
+use Rattle.text.specs.declared.utf8.Char.the-variants.{Scalar, Bad, End}
+use Rattle.text.proofs.Flat.{by-test, within-in, within-below, within-above, look-each}
+use Rattle.text.proofs.Chars.{lead-in}
 use Rattle.text.proofs.Texts.{Fit, fit}
 
 -- ---- scalar values and their encodings, by range

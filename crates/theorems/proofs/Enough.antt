@@ -7,8 +7,8 @@ use mathlib.Core.List.{[], append-nil}
 use mathlib.Core.Path.{_≡_, refl, ap, _∙_, subst}
 use lib.Dec.{leb, ltb, eqb}
 use borrow.Author.Tests.{ltb-true, ltb-false, lt-ltb, le-ltb, eqb-true, eqb-false}
-use Rattle.base.specs.Ranges.{pick}
-use Rattle.numbers.specs.Sector.{largest}
+use Rattle.text.specs.Ranges.{pick}
+use Rattle.text.specs.Sector.{largest}
 use Rattle.lines.specs.Record.{most}
 use Rattle.tables.specs.declared.table.Source.{Source}
 use Rattle.tables.specs.declared.table.Source.the-variants.{NoAccess as Locked, Zero as Zeros, Flat as File}
@@ -21,7 +21,7 @@ use Rattle.maps.specs.Map.{Search, found, nowhere, sourced, inRow, searchOf, ma
 use Rattle.walks.specs.Walk.{Walk, step, walkFrom}
 use Rattle.theorems.specs.Rows.{rowAt, OneRow}
 use Rattle.theorems.specs.Continuing.{goOn}
-use Rattle.base.proofs.Flat.{by-test}
+use Rattle.text.proofs.Flat.{by-test}
 use Rattle.theorems.proofs.Rows.{holds-true}
 use Rattle.theorems.proofs.Halving.{few-looks}
 use Rattle.theorems.proofs.Routes.{over-or-on, walk-full, walk-step}

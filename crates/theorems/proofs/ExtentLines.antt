@@ -9,27 +9,27 @@ use lib.ListN.{length, take, drop, length-append}
 use lib.Dec.{ltb}
 use lib.Seq.{take-append-seam, drop-append-add, drop-drop}
 use borrow.Author.Tests.{ltb-true}
-use Rattle.base.specs.Ranges.{pick}
-use Rattle.unicode.specs.Blank.{blank}
-use Rattle.finds.specs.Find.{findFrom, findAt, same}
-use Rattle.finds.specs.Lines.{count}
+use Rattle.text.specs.Ranges.{pick}
+use Rattle.text.specs.Blank.{blank}
+use Rattle.text.specs.Find.{findFrom, findAt, same}
+use Rattle.text.specs.Lines.{count}
 use Rattle.text.specs.Text.{textAt, sound, trimOf, trimmed, wordOf, wordCodes}
 use Rattle.theorems.specs.Unicode.{scalars, encodeAll}
-use Rattle.numbers.specs.Sector.{sectorsOf}
+use Rattle.text.specs.Sector.{sectorsOf}
 use Rattle.text.specs.declared.words.Trimmed.{Trimmed}
 use Rattle.text.specs.declared.words.Trimmed.the-variants.{Range, Wrong}
 use Rattle.text.specs.declared.words.Word.{Word}
 use Rattle.text.specs.declared.words.Word.the-variants.{Found, None}
-use Rattle.finds.specs.declared.find.Place.the-variants.{Here}
-use Rattle.numbers.specs.declared.sector.Sectors.{Sectors}
-use Rattle.numbers.specs.declared.sector.SectorCount.{SectorCount}
-use Rattle.numbers.specs.declared.sector.SectorCount.the-variants.{Count as Sectors·Count, Bad as Sectors·Bad}
-use Rattle.base.proofs.Flat.{by-test}
+use Rattle.text.specs.declared.find.Place.the-variants.{Here}
+use Rattle.text.specs.declared.sector.Sectors.{Sectors}
+use Rattle.text.specs.declared.sector.SectorCount.{SectorCount}
+use Rattle.text.specs.declared.sector.SectorCount.the-variants.{Count as Sectors·Count, Bad as Sectors·Bad}
+use Rattle.text.proofs.Flat.{by-test}
 use Rattle.text.proofs.Trims.{trim-wrong}
-use Rattle.finds.proofs.Finds.{same-is}
+use Rattle.text.proofs.Finds.{same-is}
 use Rattle.text.proofs.Bounds.{trim-within}
 use Rattle.theorems.proofs.Spellings.{word-none-codes, word-some-codes}
-use Rattle.base.specs.Ascii.{ascii}
+use Rattle.text.specs.Ascii.{ascii}
 use Rattle.lines.specs.Kept.{keptOf}
 use Rattle.lines.specs.Extent.{part, countedWord, secondWord, secondOf, thirdWord, thirdOf, threeWords, fileNameOf, startWord, fileStartOf, flatFrom, flatBy, flatLine, noAccessBy, noAccessLine, byThird, bySecond, extentLine}
 use Rattle.lines.specs.Line.{keyLine, accessWord, accessLine, firstBlank, skipped, textLine, trimmedLine, lineOf}

@@ -9,7 +9,7 @@ use mathlib.Core.Path.{_≡_, refl, sym, ap, _∙_, subst}
 use lib.ListN.{length, getD}
 use lib.Dec.{leb, ltb}
 use borrow.Author.Tests.{le-leb, lt-leb, leb-true, leb-false, ltb-true, ltb-false}
-use Rattle.numbers.specs.Sector.{largest}
+use Rattle.text.specs.Sector.{largest}
 use Rattle.lines.specs.Record.{most, counted}
 use Rattle.lines.specs.declared.record.Record.{Record}
 use Rattle.lines.specs.declared.record.VmdkParsedExtent.{VmdkParsedExtent}
@@ -21,7 +21,7 @@ use Rattle.tables.specs.Build.{noRow}
 use Rattle.maps.specs.Map.{Search, found, nowhere, looked, holds, middle, halve, sourced, inRow, searchOf, mapOf}
 use Rattle.maps.specs.Place.{sizeOf}
 use Rattle.theorems.specs.Looks.{looks, Finds, FewLooks}
-use Rattle.base.proofs.Flat.{by-test}
+use Rattle.text.proofs.Flat.{by-test}
 use Rattle.theorems.proofs.Orders.{three-ways}
 use Rattle.theorems.specs.Rows.{Builds, rowAt}
 use Rattle.theorems.proofs.Built.{tableIn, table-laid, length-laid}

@@ -18,7 +18,7 @@ use Rattle.tables.specs.declared.table.Stop.the-variants.{Done, More, Refused a
 use Rattle.maps.specs.Map.{mapOf}
 use Rattle.walks.specs.Walk.{Walk, ends, then, step, walkFrom, walkOf}
 use Rattle.theorems.specs.Continuing.{goOn, partsOf, placesIn, longWalk}
-use Rattle.base.proofs.Flat.{by-test}
+use Rattle.text.proofs.Flat.{by-test}
 use Rattle.theorems.proofs.Routes.{over-or-on, walk-full, walk-step}
 
 -- the position never falls

@@ -20,7 +20,7 @@ use Rattle.maps.specs.Map.{mapOf}
 use Rattle.maps.specs.Place.{sizeOf, placeOf}
 use Rattle.walks.specs.Walk.{Walk, step, walkFrom}
 use Rattle.theorems.specs.Tiling.{isLocked, firstLocked, noAccessFrom, FirstNoAccess, Meets}
-use Rattle.base.proofs.Flat.{by-test}
+use Rattle.text.proofs.Flat.{by-test}
 use Rattle.theorems.proofs.Halving.{looked-eight}
 use Rattle.theorems.proofs.Routes.{over-or-on, walk-full, walk-step}
 use Rattle.theorems.proofs.Tiles.{Why, Reached}

@@ -9,12 +9,12 @@ use lib.Dec.{eqb}
 use lib.Seq.{take-all, take-take, take-append-seam, take-nil, drop-append-add, drop-drop}
 use borrow.Author.Tests.{eqb-true}
 use Rattle.text.specs.Text.{trimOf, trimmed}
-use Rattle.finds.specs.Lines.{joinLines}
+use Rattle.text.specs.Lines.{joinLines}
 use Rattle.text.specs.declared.words.Trimmed.{Trimmed}
 use Rattle.text.specs.declared.words.Trimmed.the-variants.{Range, Wrong}
-use Rattle.base.proofs.Flat.{by-test}
+use Rattle.text.proofs.Flat.{by-test}
 use Rattle.text.proofs.Bounds.{trim-within}
-use Rattle.finds.proofs.Lines.{lines-join}
+use Rattle.text.proofs.Lines.{lines-join}
 use Rattle.lines.specs.Kept.{keptAt, keptOf}
 use Rattle.lines.specs.Extent.{part}
 use Rattle.theorems.specs.Statements.{placeAfter, LineAt, textIn}

@@ -8,7 +8,7 @@ use mathlib.Core.Path.{_≡_, refl, sym, _∙_, subst}
 use lib.ListN.{length, getD, take}
 use lib.Dec.{leb}
 use borrow.Author.Tests.{le-leb, lt-leb, leb-true, leb-false}
-use Rattle.numbers.specs.Sector.{largest, sectorSize}
+use Rattle.text.specs.Sector.{largest, sectorSize}
 use Rattle.lines.specs.Record.{most, counted, noExtent}
 use Rattle.lines.specs.declared.record.Record.{Record}
 use Rattle.lines.specs.declared.record.VmdkParsedExtent.{VmdkParsedExtent}
@@ -20,7 +20,7 @@ use Rattle.maps.specs.Place.{past, within, bytesIn, sizeOf, placeOf}
 use Rattle.theorems.specs.Rows.{Builds, sourceOf}
 use Rattle.theorems.specs.Looks.{looks}
 use Rattle.theorems.specs.Maps.{restOf, shown, runAt, MapsBy}
-use Rattle.base.proofs.Flat.{by-test}
+use Rattle.text.proofs.Flat.{by-test}
 use Rattle.theorems.proofs.Built.{tableIn, table-laid, length-laid}
 use Rattle.theorems.proofs.Places.{Held, held, beyond}
 use Rattle.theorems.proofs.Rows.{row-in, size-upto}

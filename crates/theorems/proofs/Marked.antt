@@ -3,13 +3,13 @@
 -- Assumes nothing.
 use mathlib.Core.List.{map}
 use mathlib.Core.Path.{_≡_, refl}
-use Rattle.numbers.specs.Sector.{sectorsOf, bytesOf}
-use Rattle.unicode.specs.Utf8.{leadOf, tailOf, charOf}
-use Rattle.unicode.specs.Blank.{blank}
+use Rattle.text.specs.Sector.{sectorsOf, bytesOf}
+use Rattle.text.specs.Utf8.{leadOf, tailOf, charOf}
+use Rattle.text.specs.Blank.{blank}
 use Rattle.text.specs.Text.{textFrom, textAt, sound, dropBlanks, lastEnd, trimText, trimOf, trimmed, runText, runOf, wordOf}
-use Rattle.finds.specs.Find.{findFrom, findAt, same, begins, stripOf}
-use Rattle.numbers.specs.Number.{allDigits, value, digitsOf, digitsAt, signOf, numberOf}
-use Rattle.finds.specs.Lines.{linesOf}
+use Rattle.text.specs.Find.{findFrom, findAt, same, begins, stripOf}
+use Rattle.text.specs.Number.{allDigits, value, digitsOf, digitsAt, signOf, numberOf}
+use Rattle.text.specs.Lines.{linesOf}
 use Rattle.keys.specs.Key.{geometryKey, keyOf}
 use Rattle.lines.specs.Kept.{keptAt, keptOf, unquotedOf}
 use Rattle.lines.specs.Extent.{secondOf, thirdOf, threeWords, fileNameOf, fileStartOf, flatLine, noAccessLine, extentLine}

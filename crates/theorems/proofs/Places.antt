@@ -12,7 +12,7 @@ use Rattle.lines.specs.Record.{noExtent}
 use Rattle.lines.specs.declared.record.VmdkParsedExtent.{VmdkParsedExtent}
 use Rattle.maps.specs.Place.{past, within, bytesIn, sizeOf, placeFrom}
 use Rattle.theorems.specs.Maps.{restOf}
-use Rattle.base.proofs.Flat.{by-test}
+use Rattle.text.proofs.Flat.{by-test}
 
 -- byte o of extents numbered from i on lies in this one of them
 pub record Held (i : ℕ) (xs : List VmdkParsedExtent) (o : ℕ) : Type 0 where

@@ -9,19 +9,19 @@ use mathlib.Core.Path.{_≡_, refl, subst}
 use lib.ListN.{length, take, drop}
 use lib.Dec.{ltb}
 use Rattle.text.specs.Text.{textAt, sound, trimOf, trimmed}
-use Rattle.finds.specs.Find.{findAt}
-use Rattle.numbers.specs.Number.{numberOf}
+use Rattle.text.specs.Find.{findAt}
+use Rattle.text.specs.Number.{numberOf}
 use Rattle.text.specs.declared.words.Trimmed.{Trimmed}
 use Rattle.text.specs.declared.words.Trimmed.the-variants.{Range, Wrong}
-use Rattle.finds.specs.declared.find.Place.{Place}
-use Rattle.finds.specs.declared.find.Place.the-variants.{Here, Nowhere}
-use Rattle.numbers.specs.declared.number.Num.{Num}
-use Rattle.numbers.specs.declared.number.Num.the-variants.{Value, Bad}
-use Rattle.numbers.specs.declared.sector.Sectors.{Sectors}
-use Rattle.numbers.specs.declared.sector.SectorCount.{SectorCount}
-use Rattle.numbers.specs.declared.sector.SectorCount.the-variants.{Count as Sectors·Count, Bad as Sectors·Bad}
+use Rattle.text.specs.declared.find.Place.{Place}
+use Rattle.text.specs.declared.find.Place.the-variants.{Here, Nowhere}
+use Rattle.text.specs.declared.number.Num.{Num}
+use Rattle.text.specs.declared.number.Num.the-variants.{Value, Bad}
+use Rattle.text.specs.declared.sector.Sectors.{Sectors}
+use Rattle.text.specs.declared.sector.SectorCount.{SectorCount}
+use Rattle.text.specs.declared.sector.SectorCount.the-variants.{Count as Sectors·Count, Bad as Sectors·Bad}
 use Rattle.text.proofs.Trims.{trim-wrong}
-use Rattle.base.proofs.Flat.{pick-all}
+use Rattle.text.proofs.Flat.{pick-all}
 use Rattle.keys.specs.Key.{keyOf}
 use Rattle.lines.specs.Kept.{keptOf}
 use Rattle.lines.specs.Extent.{part, secondOf, thirdOf, threeWords, betweenQuotes, afterQuote, fileNameOf, fileStartOf, flatFrom, flatBy, flatLine, noAccessBy, noAccessLine, byThird, bySecond, extentLine}

@@ -6,10 +6,10 @@ use mathlib.Core.List.{List, [], _∷_, _++_}
 use mathlib.Core.Path.{_≡_, refl}
 use lib.ListN.{length}
 use lib.Dec.{ltb}
-use Rattle.base.specs.Ranges.{within}
-use Rattle.finds.specs.Find.{begins}
-use Rattle.finds.specs.Lines.{linesOf}
-use Rattle.base.proofs.Flat.{pick-all}
+use Rattle.text.specs.Ranges.{within}
+use Rattle.text.specs.Find.{begins}
+use Rattle.text.specs.Lines.{linesOf}
+use Rattle.text.proofs.Flat.{pick-all}
 use Rattle.lines.specs.Record.{most, mostBytes, noDesc, noRecord}
 use Rattle.lines.specs.Line.{lineOf}
 use Rattle.descriptor.specs.Read.{leastBytes, sparse, answer, refusedRead, setOf, sizesFrom, checked, byLine, readLines, readOf}

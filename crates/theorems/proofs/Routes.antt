@@ -10,8 +10,8 @@ use mathlib.Core.Path.{_≡_, refl, sym, ap, _∙_, subst}
 use lib.ListN.{length}
 use lib.Dec.{leb, eqb}
 use borrow.Author.Tests.{le-leb, lt-leb, leb-true, leb-false, lt-ltb, le-ltb, eq-eqb, ne-eqb, eqb-true, eqb-false}
-use Rattle.numbers.specs.Sector.{largest, sectorSize}
-use Rattle.numbers.specs.declared.sector.Sectors.{Sectors}
+use Rattle.text.specs.Sector.{largest, sectorSize}
+use Rattle.text.specs.declared.sector.Sectors.{Sectors}
 use Rattle.lines.specs.declared.record.Text.{Text}
 use Rattle.lines.specs.declared.record.VmdkAccessType.{VmdkAccessType}
 use Rattle.lines.specs.declared.record.VmdkParsedExtent.{VmdkParsedExtent}
@@ -28,7 +28,7 @@ use Rattle.maps.specs.Place.{within, bytesIn, sizeOf, placeFrom, placeOf, Reach
 use Rattle.walks.specs.Walk.{Walk, ends, then, zeroPiece, rawPiece, step, walkFrom}
 use Rattle.theorems.specs.Maps.{restOf, shown, runAt, MapsBy}
 use Rattle.theorems.specs.Tiling.{ZeroPlain, readable, byteOf}
-use Rattle.base.proofs.Flat.{by-test, pick-same}
+use Rattle.text.proofs.Flat.{by-test, pick-same}
 
 -- the piece of extent i from a position up to a place; the extent begins at a place of the disk
 pub record PieceOf (x : VmdkParsedExtent) (i begin pos upto : ℕ) (p : Piece) : Type 0 where

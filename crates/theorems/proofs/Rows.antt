@@ -18,7 +18,7 @@ use Rattle.tables.specs.Build.{noRow}
 use Rattle.maps.specs.Map.{holds}
 use Rattle.maps.specs.Place.{bytesIn, sizeOf}
 use Rattle.theorems.specs.Rows.{Builds, rowAt, OneRow, InRows}
-use Rattle.base.proofs.Flat.{by-test}
+use Rattle.text.proofs.Flat.{by-test}
 use Rattle.theorems.proofs.Orders.{three-ways}
 use Rattle.theorems.proofs.Built.{tableIn, laid, rowOf, table-laid, length-laid, row-laid, filled-at, size-next, size-grows, size-all}
 use Rattle.theorems.proofs.Places.{Held, held}

@@ -8,11 +8,11 @@ use mathlib.Core.Path.{_≡_, refl, sym, ap, subst, _∙_}
 use lib.ListN.{length, length-append}
 use lib.Dec.{leb, ltb}
 use borrow.Author.Tests.{lt-ltb, le-ltb, ltb-true, ltb-false}
-use Rattle.base.specs.Ranges.{within}
-use Rattle.numbers.specs.Sector.{bytesOf, largest}
-use Rattle.numbers.specs.declared.sector.ByteCount.{ByteCount}
-use Rattle.numbers.specs.declared.sector.ByteCount.the-variants.{Count, TooLarge}
-use Rattle.base.proofs.Flat.{by-test, pick-all}
+use Rattle.text.specs.Ranges.{within}
+use Rattle.text.specs.Sector.{bytesOf, largest}
+use Rattle.text.specs.declared.sector.ByteCount.{ByteCount}
+use Rattle.text.specs.declared.sector.ByteCount.the-variants.{Count, TooLarge}
+use Rattle.text.proofs.Flat.{by-test, pick-all}
 use Rattle.lines.specs.Record.{most, refusal}
 use Rattle.lines.specs.Line.{lineOf}
 use Rattle.descriptor.specs.Read.{answer, setOf, summed, sizesFrom, checked, byLine, readLines}

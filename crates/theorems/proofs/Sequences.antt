@@ -7,12 +7,12 @@ use mathlib.Core.Bool.{true, false}
 use mathlib.Core.Path.{_≡_, refl, sym, ap, subst, _∙_}
 use lib.ListN.{length, drop}
 use lib.Seq.{drop-nil, drop-append-seam}
-use Rattle.unicode.specs.Utf8.{charOf}
+use Rattle.text.specs.Utf8.{charOf}
 use Rattle.text.specs.Text.{Text, done, char, put, textFrom, textAt, sound, codes}
 use Rattle.theorems.specs.Unicode.{scalar, encode, scalars, encodeAll}
-use Rattle.unicode.specs.declared.utf8.Char.{Char}
-use Rattle.unicode.specs.declared.utf8.Char.the-variants.{Scalar, Bad, End}
-use Rattle.base.proofs.Flat.{by-test}
+use Rattle.text.specs.declared.utf8.Char.{Char}
+use Rattle.text.specs.declared.utf8.Char.the-variants.{Scalar, Bad, End}
+use Rattle.text.proofs.Flat.{by-test}
 use Rattle.text.proofs.Texts.{Fit, fit, after}
 use Rattle.theorems.proofs.Encodings.{read-encoding, encoding-read, begins-split}
 

@@ -15,7 +15,7 @@ use Rattle.lines.specs.declared.record.VmdkParsedStorage.{VmdkParsedStorage}
 use Rattle.lines.specs.declared.record.VmdkParsedStorage.the-variants.{NoAccess, Zero, Flat}
 use Rattle.maps.specs.Place.{within, bytesIn, placeFrom, placeOf, past}
 use Rattle.theorems.specs.Tiling.{isLocked, readable, numberOf, shares, metFrom, metBy, ReadsIn, Rise, Met}
-use Rattle.base.proofs.Flat.{by-test}
+use Rattle.text.proofs.Flat.{by-test}
 use Rattle.theorems.proofs.Routes.{place-here, place-next}
 use Rattle.theorems.proofs.Tiles.{reads-free}
 

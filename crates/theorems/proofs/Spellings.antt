@@ -10,13 +10,13 @@ use lib.ListN.{length, take, drop, length-append}
 use lib.Dec.{leb, eqb}
 use lib.Seq.{take-append-add, take-append-seam, drop-append-seam, drop-drop}
 use borrow.Author.Tests.{eqb-true, eq-eqb}
-use Rattle.base.specs.Ranges.{pick}
-use Rattle.unicode.specs.Blank.{blank}
+use Rattle.text.specs.Ranges.{pick}
+use Rattle.text.specs.Blank.{blank}
 use Rattle.text.specs.Text.{textAt, alike, dropBlanks, lastEnd, rangeOf, trimText, trimOf, cut, trimmed, runText, runOf, wordIn, wordOf, runCodes, pastCodes, allBlank, endCodes, trimCodes, wordCodes}
 use Rattle.theorems.specs.Unicode.{scalar, encode, scalars, encodeAll}
 use Rattle.text.specs.declared.words.Trimmed.the-variants.{Range}
 use Rattle.text.specs.declared.words.Word.the-variants.{Found, None}
-use Rattle.base.proofs.Flat.{by-test}
+use Rattle.text.proofs.Flat.{by-test}
 use Rattle.theorems.proofs.Sequences.{spell, spelled, spell-sound}
 
 -- how many bytes the encodings of cs have

@@ -6,9 +6,9 @@ use mathlib.Core.Logic.{_↔_}
 use mathlib.Core.Bool.{true, false}
 use mathlib.Core.Path.{_≡_, sym, _∙_}
 use lib.ListN.{length}
-use Rattle.base.specs.Ranges.{within}
+use Rattle.text.specs.Ranges.{within}
 use Rattle.text.specs.Text.{textAt, sound, trimmed}
-use Rattle.numbers.specs.declared.sector.Sectors.{Sectors}
+use Rattle.text.specs.declared.sector.Sectors.{Sectors}
 use Rattle.lines.specs.Record.{most, noRecord, counted, refusal}
 use Rattle.lines.specs.Line.{lineOf}
 use Rattle.descriptor.specs.Read.{readOf}

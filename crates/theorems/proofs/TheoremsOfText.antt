@@ -8,31 +8,31 @@ use mathlib.Core.Bool.{true, false}
 use mathlib.Core.Path.{_≡_, refl, sym, ap, subst, _∙_}
 use lib.ListN.{length, take, drop, length-drop, length-append}
 use borrow.Author.Tests.{le-leb}
-use Rattle.unicode.specs.Utf8.{charAt}
+use Rattle.text.specs.Utf8.{charAt}
 use Rattle.theorems.specs.Unicode.{encode, Stands, scalars, encodeAll}
 use Rattle.text.specs.Text.{textAt, sound, codes, trimOf, trimmed, wordOf, trimCodes, wordCodes}
-use Rattle.unicode.specs.Blank.{whiteSpace, blank}
-use Rattle.finds.specs.Lines.{linesOf, count, joinLines}
-use Rattle.numbers.specs.Number.{allDigits, value, digitsOf, digitsAt, signOf, numberOf, Numeral, zeros}
-use Rattle.finds.specs.Find.{stripOf, partOf}
-use Rattle.numbers.specs.Sector.{bytesOf}
-use Rattle.unicode.specs.declared.utf8.Char.the-variants.{Scalar, Bad, End}
-use Rattle.numbers.specs.declared.number.Num.the-variants.{Value, Bad as Num·Bad}
+use Rattle.text.specs.Blank.{whiteSpace, blank}
+use Rattle.text.specs.Lines.{linesOf, count, joinLines}
+use Rattle.text.specs.Number.{allDigits, value, digitsOf, digitsAt, signOf, numberOf, Numeral, zeros}
+use Rattle.text.specs.Find.{stripOf, partOf}
+use Rattle.text.specs.Sector.{bytesOf}
+use Rattle.text.specs.declared.utf8.Char.the-variants.{Scalar, Bad, End}
+use Rattle.text.specs.declared.number.Num.the-variants.{Value, Bad as Num·Bad}
 use Rattle.text.specs.declared.words.Trimmed.the-variants.{Wrong}
 use Rattle.text.specs.declared.words.Word.the-variants.{Found, None}
-use Rattle.numbers.specs.declared.sector.Sectors.{Sectors}
-use Rattle.numbers.specs.declared.sector.ByteCount.the-variants.{Count, TooLarge}
-use Rattle.base.proofs.Flat.{Each}
-use Rattle.unicode.proofs.Chars.{char-end}
+use Rattle.text.specs.declared.sector.Sectors.{Sectors}
+use Rattle.text.specs.declared.sector.ByteCount.the-variants.{Count, TooLarge}
+use Rattle.text.proofs.Flat.{Each}
+use Rattle.text.proofs.Chars.{char-end}
 use Rattle.text.proofs.Texts.{Fit, fit}
 use Rattle.theorems.proofs.Encodings.{read-encoding, stands-read, none-stands}
 use Rattle.theorems.proofs.Sequences.{sound-cut, sound-join}
 use Rattle.text.proofs.Trims.{trim-wrong}
 use Rattle.theorems.proofs.Spellings.{trimmed-codes, word-none-codes, word-some-codes}
-use Rattle.finds.proofs.Finds.{strip-between}
-use Rattle.numbers.proofs.Sectors.{bytes-rule, bytes-large}
-use Rattle.finds.proofs.Lines.{Whole, lines-count, lines-join, lines-whole}
-use Rattle.numbers.proofs.Numerals.{number-out, number-in, zeros-value, zeros-digits}
+use Rattle.text.proofs.Finds.{strip-between}
+use Rattle.text.proofs.Sectors.{bytes-rule, bytes-large}
+use Rattle.text.proofs.Lines.{Whole, lines-count, lines-join, lines-whole}
+use Rattle.text.proofs.Numerals.{number-out, number-in, zeros-value, zeros-digits}
 
 -- ---- UTF-8
 -- The step at a place answers a character c of n bytes exactly if the encoding of the scalar value c stands there, and it has n bytes.

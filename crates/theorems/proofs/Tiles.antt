@@ -17,7 +17,7 @@ use Rattle.tables.specs.declared.table.Stop.{Stop}
 use Rattle.tables.specs.declared.table.Stop.the-variants.{Done, Refused as Stopped}
 use Rattle.maps.specs.Place.{within, bytesIn, sizeOf, placeFrom}
 use Rattle.theorems.specs.Tiling.{rowsOf, ZeroPlain, All, Follow, isLocked, readable, byteOf, metFrom}
-use Rattle.base.proofs.Flat.{by-test, pick-same}
+use Rattle.text.proofs.Flat.{by-test, pick-same}
 use Rattle.theorems.proofs.Routes.{PieceOf, Route, over, done, pass, shut, piece, place-here, place-next}
 
 pub all-map : {A : Type 0} (P Q : A → Type 0) → ((a : A) → P a → Q a) → (l : List A) → All P l → All Q l

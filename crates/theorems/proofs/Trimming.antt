@@ -8,14 +8,14 @@ use mathlib.Core.Path.{_≡_, refl, sym, ap, _∙_}
 use lib.ListN.{length}
 use lib.Dec.{leb, eqb}
 use borrow.Author.Tests.{eq-eqb, ne-eqb, eqb-true, le-leb, leb-false}
-use Rattle.base.specs.Ranges.{pick}
-use Rattle.unicode.specs.Blank.{blank}
-use Rattle.finds.specs.Find.{findFrom}
-use Rattle.finds.specs.Lines.{count}
+use Rattle.text.specs.Ranges.{pick}
+use Rattle.text.specs.Blank.{blank}
+use Rattle.text.specs.Find.{findFrom}
+use Rattle.text.specs.Lines.{count}
 use Rattle.text.specs.Text.{textAt, sound, codes, trimmed, runCodes, pastCodes, allBlank, endCodes, trimCodes}
 use Rattle.theorems.specs.Unicode.{scalar, encode, trailing, scalars, encodeAll}
-use Rattle.finds.specs.declared.find.Place.the-variants.{Here, Nowhere}
-use Rattle.base.proofs.Flat.{by-test}
+use Rattle.text.specs.declared.find.Place.the-variants.{Here, Nowhere}
+use Rattle.text.proofs.Flat.{by-test}
 use Rattle.theorems.proofs.Sequences.{sound-cut}
 use Rattle.theorems.proofs.Spellings.{end-blank, Open, past-open, trimmed-codes, encode-some}
 

@@ -10,11 +10,11 @@ use lib.ListN.{length, replicate}
 use lib.Seq.{take-append-seam}
 use lib.Dec.{ltb}
 use borrow.Author.Tests.{le-ltb, ltb-false}
-use Rattle.base.specs.Ranges.{within}
-use Rattle.finds.specs.Find.{begins}
-use Rattle.finds.specs.Lines.{linesOf}
+use Rattle.text.specs.Ranges.{within}
+use Rattle.text.specs.Find.{begins}
+use Rattle.text.specs.Lines.{linesOf}
 use Rattle.text.specs.Text.{textAt, sound}
-use Rattle.base.proofs.Flat.{by-test}
+use Rattle.text.proofs.Flat.{by-test}
 use Rattle.lines.specs.Record.{most, mostBytes, noExtent, noDesc, filled, recordOf, counted, refusal}
 use Rattle.lines.specs.Line.{lineOf}
 use Rattle.descriptor.specs.Read.{leastBytes, sparse, answer, sizesFrom, checked, readLines, readOf}

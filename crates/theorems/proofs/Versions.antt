@@ -10,22 +10,22 @@ use lib.ListN.{length, take, drop}
 use lib.Dec.{eqb, ltb}
 use lib.Seq.{take-append-seam, drop-append-add}
 use borrow.Author.Tests.{ne-eqb, le-ltb}
-use Rattle.base.specs.Ranges.{pick, within}
-use Rattle.unicode.specs.Blank.{blank}
-use Rattle.finds.specs.Find.{findAt, same, begins}
-use Rattle.finds.specs.Lines.{count, linesOf}
+use Rattle.text.specs.Ranges.{pick, within}
+use Rattle.text.specs.Blank.{blank}
+use Rattle.text.specs.Find.{findAt, same, begins}
+use Rattle.text.specs.Lines.{count, linesOf}
 use Rattle.text.specs.Text.{trimOf, trimmed}
 use Rattle.theorems.specs.Unicode.{scalars, encodeAll}
-use Rattle.numbers.specs.Number.{numberOf}
+use Rattle.text.specs.Number.{numberOf}
 use Rattle.text.specs.declared.words.Trimmed.{Trimmed}
 use Rattle.text.specs.declared.words.Trimmed.the-variants.{Range, Wrong}
-use Rattle.finds.specs.declared.find.Place.the-variants.{Here}
-use Rattle.numbers.specs.declared.number.Num.{Num}
-use Rattle.numbers.specs.declared.number.Num.the-variants.{Value, Bad}
-use Rattle.base.proofs.Flat.{by-test, pick-all}
-use Rattle.finds.proofs.Finds.{same-is}
+use Rattle.text.specs.declared.find.Place.the-variants.{Here}
+use Rattle.text.specs.declared.number.Num.{Num}
+use Rattle.text.specs.declared.number.Num.the-variants.{Value, Bad}
+use Rattle.text.proofs.Flat.{by-test, pick-all}
+use Rattle.text.proofs.Finds.{same-is}
 use Rattle.lines.specs.Record.{mostBytes, noDesc, refusal}
-use Rattle.base.specs.Ascii.{ascii}
+use Rattle.text.specs.Ascii.{ascii}
 use Rattle.keys.specs.Key.{keyOf, geometryKey}
 use Rattle.lines.specs.Extent.{part, noAccessLine, extentLine}
 use Rattle.lines.specs.Line.{versionLimit, versionBy, versionOf, geometryOf, geometryBy, geometryLine, valueOf, keyLine, accessWord, accessLine, firstBlank, skipped, textLine, lineOf}

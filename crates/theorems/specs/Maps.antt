@@ -4,8 +4,8 @@ use mathlib.Core.List.{List, [], _∷_}
 use mathlib.Core.Path.{_≡_}
 use mathlib.Core.Logic.{_↔_}
 use lib.Dec.{leb, ltb}
-use Rattle.base.specs.Ranges.{pick}
-use Rattle.numbers.specs.Sector.{largest}
+use Rattle.text.specs.Ranges.{pick}
+use Rattle.text.specs.Sector.{largest}
 use Rattle.lines.specs.declared.record.VmdkParsedExtent.{VmdkParsedExtent}
 use Rattle.tables.specs.declared.table.Table.{Table}
 use Rattle.tables.specs.declared.table.ShallowMapping.{ShallowMapping}

@@ -4,15 +4,15 @@ use mathlib.Core.List.{List, [], _∷_, _++_}
 use mathlib.Core.Bool.{Bool, true, false}
 use mathlib.Core.Path.{_≡_}
 use lib.ListN.{length, take, drop}
-use Rattle.finds.specs.Find.{begins}
-use Rattle.finds.specs.Lines.{linesOf, count}
+use Rattle.text.specs.Find.{begins}
+use Rattle.text.specs.Lines.{linesOf, count}
 use Rattle.text.specs.Text.{trimmed, wordOf}
-use Rattle.numbers.specs.Sector.{sectorsOf}
+use Rattle.text.specs.Sector.{sectorsOf}
 use Rattle.text.specs.declared.words.Word.the-variants.{Found}
-use Rattle.numbers.specs.declared.sector.SectorCount.{SectorCount}
-use Rattle.numbers.specs.declared.sector.SectorCount.the-variants.{Count}
+use Rattle.text.specs.declared.sector.SectorCount.{SectorCount}
+use Rattle.text.specs.declared.sector.SectorCount.the-variants.{Count}
 use Rattle.lines.specs.Record.{most, mostBytes}
-use Rattle.base.specs.Ascii.{ascii}
+use Rattle.text.specs.Ascii.{ascii}
 use Rattle.lines.specs.Extent.{part, threeWords, fileStartOf}
 use Rattle.lines.specs.Line.{firstBlank, lineOf}
 use Rattle.descriptor.specs.Read.{leastBytes, sparse}

@@ -7,7 +7,7 @@ use mathlib.Core.Path.{_≡_}
 use mathlib.Core.Logic.{_↔_, _⊎_}
 use lib.ListN.{length}
 use lib.Dec.{ltb}
-use Rattle.base.specs.Ranges.{pick}
+use Rattle.text.specs.Ranges.{pick}
 use Rattle.lines.specs.declared.record.VmdkParsedExtent.{VmdkParsedExtent}
 use Rattle.lines.specs.declared.record.VmdkParsedStorage.{VmdkParsedStorage}
 use Rattle.lines.specs.declared.record.VmdkParsedStorage.the-variants.{NoAccess, Zero, Flat}

@@ -4,8 +4,8 @@ use mathlib.Core.List.{List, [], _∷_, _++_}
 use mathlib.Core.Bool.{Bool, true, false}
 use mathlib.Core.Path.{_≡_}
 use lib.Dec.{leb}
-use Rattle.base.specs.Ranges.{pick, within}
-use Rattle.finds.specs.Find.{begins}
+use Rattle.text.specs.Ranges.{pick, within}
+use Rattle.text.specs.Find.{begins}
 
 -- 0 to D7FF and E000 to 10FFFF
 abbrev pub scalar : ℕ → Bool

@@ -5,7 +5,7 @@ use Prim.Native.Nat.{ℕ}
 use mathlib.Core.Bool.{Bool, true, false}
 use mathlib.Core.List.{List}
 use borrow.Author.Needs.{needs}
-use Rattle.numbers.specs.Sector.{largest}
+use Rattle.text.specs.Sector.{largest}
 use Rattle.descriptor.specs.Read.{readOf}
 use Rattle.descriptor.specs.declared.read.Read.{Read}
 use Rattle.lines.specs.declared.record.Refusal.{Refusal}

@@ -112,7 +112,7 @@ fn run_all(list: &[u8]) -> u64 {
     let mut at = 0;
     let mut n: u64 = 0;
     while at < list.len() {
-        let e = finds::find::line_end(list, at);
+        let e = text::find::line_end(list, at);
         if e <= at {
             return n;
         }

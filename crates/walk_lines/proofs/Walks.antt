@@ -8,7 +8,7 @@ use mathlib.Core.Path.{_≡_}
 use lib.ListN.{length, getD, drop}
 use lib.Seq.{take-append-seam, take-all}
 use borrow.Author.Needs.{needs}
-use Rattle.base.specs.Ascii.{ascii}
+use Rattle.text.specs.Ascii.{ascii}
 use Rattle.lines.specs.Record.{most}
 use Rattle.lines.specs.declared.record.Refusal.{Refusal}
 use Rattle.lines.specs.declared.record.Verdict.the-variants.{Sound, Refused as Stopped}

@@ -6,8 +6,8 @@ use mathlib.Core.List.{List}
 use lib.Dec.{ltb, leb}
 use lib.ListN.{getD}
 use borrow.Author.Tests.{leb-true, leb-false}
-use Rattle.base.specs.Ranges.{pick}
-use Rattle.numbers.specs.Sector.{largest}
+use Rattle.text.specs.Ranges.{pick}
+use Rattle.text.specs.Sector.{largest}
 use Rattle.lines.specs.Record.{most}
 use Rattle.tables.specs.declared.table.Row.{Row}
 use Rattle.tables.specs.declared.table.Source.{Source}

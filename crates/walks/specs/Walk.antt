@@ -4,7 +4,7 @@ use mathlib.Core.Bool.{Bool, false}
 use mathlib.Core.List.{List, [], _∷_, _++_}
 use lib.ListN.{length, drop}
 use lib.Dec.{leb, eqb}
-use Rattle.base.specs.Ranges.{pick}
+use Rattle.text.specs.Ranges.{pick}
 use Rattle.lines.specs.Record.{most}
 use Rattle.tables.specs.declared.table.Table.{Table}
 use Rattle.tables.specs.declared.table.ShallowMapping.{ShallowMapping}

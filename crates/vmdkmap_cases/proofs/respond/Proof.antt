@@ -1,6 +1,6 @@
 -- `respond` is safe and ends. A part of the buffer that is no longer than the buffer has as many bytes as are asked. Assumes nothing.
 use borrow.Author.Needs.{needs}
-use Rattle.finds.proofs.Parts.{take-count}
+use Rattle.text.proofs.Parts.{take-count}
 use Rattle.vmdkmap_cases.proofs.respond.Statement.{statement}
 use Rattle.vmdkmap_cases.proofs.respond.Tie as tie
 

@@ -32,8 +32,8 @@ use denote.Exit.{yes}
 use denote.Signature.{plain}
 use Rattle.maps.specs.Halving.{headOf}
 use Rattle.tables.specs.declared.table.Table.{Table}
-use Rattle.numbers.proofs.sector.Bytes as B
-use Rattle.numbers.proofs.sector.Bytes.Laws as B′
+use Rattle.text.proofs.sector.Bytes as B
+use Rattle.text.proofs.sector.Bytes.Laws as B′
 use Rattle.tables.proofs.table.Table as T
 use Rattle.tables.proofs.table.Table.Laws as T′
 use Rattle.maps.proofs.halving.Heading as R

@@ -6,7 +6,7 @@ use Rattle.tables.proofs.build.open_file.Tie as tie
 use Rattle.tables.proofs.build.open_file.Reads as reads
 use Rattle.tables.proofs.build.open_file.Lts as lts
 use Rattle.tables.proofs.build.row.Reads as row-reads
-use Rattle.numbers.proofs.sector.Sectors.bytes.Reads as bytes-reads
+use Rattle.text.proofs.sector.Sectors.bytes.Reads as bytes-reads
 
 pub open-file-spec : {M : Type 1} → statement M
 open-file-spec =

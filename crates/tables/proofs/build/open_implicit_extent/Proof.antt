@@ -6,7 +6,7 @@ use Rattle.tables.proofs.build.open_implicit_extent.Tie as tie
 use Rattle.tables.proofs.build.open_implicit_extent.Reads as reads
 use Rattle.tables.proofs.build.open_implicit_extent.Lts as lts
 use Rattle.tables.proofs.build.open_source.Reads as open-source-reads
-use Rattle.numbers.proofs.sector.Sectors.bytes.Reads as bytes-reads
+use Rattle.text.proofs.sector.Sectors.bytes.Reads as bytes-reads
 
 pub open-implicit-extent-spec : {M : Type 1} → statement M
 open-implicit-extent-spec =

@@ -1,32 +1,26 @@
--- `valid::low` meets its contract: the code's tests, in their order, are those of `below`.
-use mathlib.Core.Path.{refl}
-use Rattle.text.specs.Blocks.{below}
-use borrow.Author.Needs.{needs}
+-- `valid::low` meets its contract. The invariant: the first i bytes were tested, at most 16; those left fall.
+use Prim.Native.Nat.{_-_, _≤_}
+use mathlib.Core.Path.{_≡_}
+use Rattle.text.specs.Blocks.{each, isLow}
+use Rattle.text.proofs.Blocks.{eachs}
 use Rattle.text.proofs.valid.low.Statement.{statement}
 use Rattle.text.proofs.valid.low.Tie as tie
 
-returns : tie.Need-returns
-unfolding below
-returns c = refl
+abbrev Inv-loop : tie.InvT-loop
+Inv-loop t all₀ i₀ all i = (i ≤ 16) × (all ≡ each isLow i t)
+
+abbrev μ-loop : tie.MeasureT-loop
+μ-loop t all₀ i₀ all i = 16 - i
 
 pub low-spec : {M : Type 1} → statement M
 low-spec =
     tie.close
     (tie.spec
-    (λ c. search needs)
-    (λ c. search needs)
-    (λ c. search needs)
-    (λ c. search needs)
-    (λ c. search needs)
-    (λ c. search needs)
-    (λ c. search needs)
-    (λ c. search needs)
-    (λ c. search needs)
-    (λ c. search needs)
-    (λ c. search needs)
-    (λ c. search needs)
-    (λ c. search needs)
-    (λ c. search needs)
-    (λ c. search needs)
-    (λ c. search needs)
-    returns)
+    Inv-loop
+    μ-loop
+    (λ c. search eachs)
+    (λ c. search eachs)
+    (λ c. search eachs)
+    (λ c. search eachs)
+    (λ c. search eachs)
+    (λ c. search eachs))

@@ -37,7 +37,7 @@ use denote.Triple.Table.{entered, cited}
 use denote.Triple.Walked.{says, needs, Stays, stay-none, stay-none-ref, walkOf, goes-none, goes-none-ref, Walks, ends-at, walked, walk-meets}
 use denote.Exit.{yes}
 use denote.Signature.{plain}
-use Rattle.base.specs.Ranges.{pick}
+use Rattle.text.specs.Ranges.{pick}
 use Rattle.maps.specs.Map.{mapOf}
 use Rattle.maps.specs.Halving.{foundOf, answerOf}
 use Rattle.walks.specs.Stepping.{Meant, Ready, markOf, endMark, mapAt}

@@ -1,1 +1,0 @@
-// What the definitions of every crate are written with, and no code.

@@ -1,3 +1,0 @@
-pub mod Without
-pub mod Find
-pub mod Lines

@@ -1,0 +1,26 @@
+-- `find::without_byte` meets its contract. The invariant: the first i bytes were tested, at most 16; those left fall.
+use Prim.Native.Nat.{_-_, _≤_}
+use mathlib.Core.Path.{_≡_}
+use Rattle.text.specs.Blocks.{each, isOther}
+use Rattle.text.proofs.Blocks.{eachs}
+use Rattle.text.proofs.find.without_byte.Statement.{statement}
+use Rattle.text.proofs.find.without_byte.Tie as tie
+
+abbrev Inv-loop : tie.InvT-loop
+Inv-loop t b all₀ i₀ all i = (i ≤ 16) × (all ≡ each (isOther b) i t)
+
+abbrev μ-loop : tie.MeasureT-loop
+μ-loop t b all₀ i₀ all i = 16 - i
+
+pub without-byte-spec : {M : Type 1} → statement M
+without-byte-spec =
+    tie.close
+    (tie.spec
+    Inv-loop
+    μ-loop
+    (λ c. search eachs)
+    (λ c. search eachs)
+    (λ c. search eachs)
+    (λ c. search eachs)
+    (λ c. search eachs)
+    (λ c. search eachs))

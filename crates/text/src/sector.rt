@@ -1,0 +1,50 @@
+// Sectors and bytes: two kinds of number, and the one way from the first to the second.
+ghost use mathlib.Core.Path.{_≡_};
+ghost use Rattle.text.specs.Sector.{sectorsOf, bytesOf};
+use crate::number::Num;
+use crate::number::number;
+
+// A number of sectors.
+pub struct Sectors(pub u64);
+
+// A number of bytes.
+pub struct Bytes(pub u64);
+
+// A sector count, or that a text is no number.
+pub enum SectorCount {
+    Count(Sectors),
+    Bad,
+}
+
+// A byte count, or that it is above 2^64-1.
+pub enum ByteCount {
+    Count(Bytes),
+    TooLarge,
+}
+
+impl Sectors {
+    // The bytes of one sector.
+    pub const SIZE: u64 = 512;
+
+    // The sector count that a text is.
+    pub fn of(t: &[u8]) -> SectorCount
+        ensures { λ r. ⌜ r ≡ sectorsOf (now (t .entry)) ⌝ }
+    {
+        let n = number(t, u64::MAX);
+        match n {
+            Num::Value(v) => SectorCount::Count(Sectors(v)),
+            Num::Bad => SectorCount::Bad,
+        }
+    }
+
+    // The bytes that so many sectors have.
+    pub fn bytes(self) -> ByteCount
+        ensures { λ r. ⌜ r ≡ bytesOf self ⌝ }
+    {
+        let n = self.0;
+        if u64::MAX / Sectors::SIZE < n {
+            return ByteCount::TooLarge;
+        }
+        ByteCount::Count(Bytes(n * Sectors::SIZE))
+    }
+}
