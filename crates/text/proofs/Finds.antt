@@ -5,7 +5,7 @@ use native.Mathlib.Omega.{arith}
 use native.Mathlib.Numerals.{add-one}
 use native.Mathlib.Nat.{add-zero}
 use mathlib.Core.List.{List, [], _∷_, _++_}
-use mathlib.Core.Bool.{Bool, true, false, not}
+use mathlib.Core.Bool.{Bool, true, false}
 use mathlib.Core.Path.{_≡_, refl, sym, ap, _∙_}
 use borrow.Author.Needs.{needs}
 use lib.ListN.{length, getD, take, drop, drop-of-length-le, length-drop, length-append}
@@ -19,7 +19,7 @@ use Rattle.text.specs.declared.find.Part.{Part}
 use Rattle.text.specs.declared.find.Place.the-variants.{Here, Nowhere}
 use Rattle.text.proofs.Blocks.{each-one}
 use Rattle.text.proofs.Parts.{take-count, block-byte, block-long}
-use Rattle.text.proofs.Flat.{by-test, pick-same, both, unequal}
+use Rattle.text.proofs.Flat.{by-test, pick-same, unequal}
 
 -- Rules of the loop of `find_byte`. `search finds` finds their premises by itself: what the loop keeps, and the tests on the way.
 module _ (b : ℕ) (t : List ℕ) (from at : ℕ) (i : findAt b t from ≡ findAt b t at) where

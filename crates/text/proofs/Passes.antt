@@ -7,11 +7,11 @@ use mathlib.Core.List.{List}
 use mathlib.Core.Bool.{Bool, true, false, _&&_, _||_, not}
 use mathlib.Core.Path.{_≡_, refl, sym, ap, subst, _∙_}
 use lib.ListN.{length, getD, take, drop, length-take, length-drop}
-use lib.Dec.{eqb, ltb, leb}
+use lib.Dec.{eqb, leb}
 use mir.Syntax.{w64}
 use mir.Val.{Fits}
 use borrow.Author.Needs.{needs}
-use borrow.Author.Tests.{ltb-true, ltb-false, leb-true, leb-false, eqb-true, eqb-false}
+use borrow.Author.Tests.{ltb-true, leb-true, leb-false, eqb-true, eqb-false}
 use Rattle.text.specs.Blocks.{each, isLow, Passed, widthIn}
 use Rattle.text.specs.Utf8.{leadOf, tailAt, charOf, charAt}
 use Rattle.text.specs.Text.{sound, textAt}
@@ -94,38 +94,6 @@ module _ (t : List ℕ) (at : ℕ) (h : at + 3 ≤ length t) where
       (λ c. let n = eqb-true b 0xED c in triple-char (lead-in 0xED 0xED b tt (omega arith) (omega arith)) l (g n) m v)
       (λ c. let n = eqb-false b 0xED c in triple-char (lead-in 0xEE 0xEF b tt (omega arith) q) l u m v)))
 
--- four bytes, of which the first asks for a second in lo to hi
-module _ (t : List ℕ) (at : ℕ) (h : at + 4 ≤ length t) where
-  quad-char : {lo hi : ℕ} → leadOf (getD t at 0) ≡ Lead·Row 3 lo hi 0x08 → lo ≤ getD t (at + 1) 0 → getD t (at + 1) 0 ≤ hi → 0x80 ≤ getD t (at + 2) 0 → getD t (at + 2) 0 ≤ 0xBF → 0x80 ≤ getD t (at + 3) 0 → getD t (at + 3) 0 ≤ 0xBF → widthIn (charAt t at) ≡ 4
-  unfolding tailAt
-  quad-char {lo} {hi} r l u m v j k =
-      let b = getD t at 0 in
-      let x = getD t (at + 1) 0 in
-      let y = getD t (at + 2) 0 in
-      let z = getD t (at + 3) 0 in
-      let c₁ = b % 0x08 in
-      let c₂ = c₁ * 64 + x % 64 in
-      let c₃ = c₂ * 64 + y % 64 in
-      let p : at + 1 + 1 ≡ at + 2 = omega arith in
-      let q : at + 2 + 1 ≡ at + 3 = omega arith in
-      let s₁ : charAt t at ≡ tailAt t (at + 1) 3 lo hi c₁ 4 = char-at t at (omega arith) (sym r) in
-      let s₂ = tail-read t (at + 1) 3 lo hi c₁ 4 (omega arith) (omega arith) in
-      let s₃ = tail-read t (at + 2) 2 0x80 0xBF c₂ 4 (omega arith) (omega arith) in
-      let s₄ = tail-read t (at + 3) 1 0x80 0xBF c₃ 4 (omega arith) (omega arith) in
-      let s₅ = tail-none t (at + 3 + 1) (1 - 1) 0x80 0xBF (c₃ * 64 + z % 64) 4 (omega arith) in
-      rw (s₁, s₂, within-in lo hi x l u, p, s₃, within-in 0x80 0xBF y m v, q, s₄, within-in 0x80 0xBF z j k, s₅)
-
-  -- the rows of F0 to F4
-  quad-rows : 0xF0 ≤ getD t at 0 → getD t at 0 ≤ 0xF4 → 0x80 ≤ getD t (at + 1) 0 → getD t (at + 1) 0 ≤ 0xBF → (getD t at 0 ≡ 0xF0 → 0x90 ≤ getD t (at + 1) 0) → (getD t at 0 ≡ 0xF4 → getD t (at + 1) 0 ≤ 0x8F) → 0x80 ≤ getD t (at + 2) 0 → getD t (at + 2) 0 ≤ 0xBF → 0x80 ≤ getD t (at + 3) 0 → getD t (at + 3) 0 ≤ 0xBF → widthIn (charAt t at) ≡ 4
-  quad-rows p q l u f g m v j k =
-      let b = getD t at 0 in
-      by-test (eqb b 0xF0)
-      (λ e. let n = eqb-true b 0xF0 e in quad-char (lead-in 0xF0 0xF0 b tt (omega arith) (omega arith)) (f n) u m v j k)
-      (λ e. let o = eqb-false b 0xF0 e in
-      by-test (eqb b 0xF4)
-      (λ c. let n = eqb-true b 0xF4 c in quad-char (lead-in 0xF4 0xF4 b tt (omega arith) (omega arith)) l (g n) m v j k)
-      (λ c. let n = eqb-false b 0xF4 c in quad-char (lead-in 0xF1 0xF3 b tt (omega arith) (omega arith)) l u m v j k))
-
 -- ---- what is passed over
 pub pass-none : (t : List ℕ) (at : ℕ) → at ≤ length t → Passed t at at
 unfolding Passed
@@ -184,7 +152,7 @@ last-long t l k = simp (length-take, length-drop) (omega arith)
 
 pub ruleset lows = (pass-none, pass-low, pass-block, pass-last, block-long, last-long, needs)
 
--- Rules of `pair_at`, `triple_at` and `quad_at`
+-- Rules of `pair_at` and `triple_at`
 pub pass-not : (t : List ℕ) (at n : ℕ) → false ≡ true → widthIn (charAt t at) ≡ n
 pass-not t at n h = let z : _≡_ {A = ℕ} 0 1 = cc in absurd (omega arith)
 
@@ -216,28 +184,7 @@ module _ (t : List ℕ) (at : ℕ) where
       triple-rows t at (omega arith) (leb-true 0xE0 b (q₇ .0)) (leb-true b 0xEF (q₇ .1)) (leb-true 0x80 x (q₆ .1)) (leb-true x 0xBF (q₅ .1)) (leb-true 0x80 y (q₄ .1)) (leb-true y 0xBF (q₃ .1))
       (λ n. leb-true 0xA0 x (unless b 0xE0 (leb 0xA0 x) (q₂ .1) n)) (λ n. leb-true x 0x9F (unless b 0xED (leb x 0x9F) (q₁ .1) n))
 
-  pub pass-quad : 4 ≤ length t - at → leb 0xF0 (getD t at 0) && leb (getD t at 0) 0xF4 && leb 0x80 (getD t (at + 1) 0) && leb (getD t (at + 1) 0) 0xBF && (not (eqb (getD t at 0) 0xF0) || leb 0x90 (getD t (at + 1) 0)) && (not (eqb (getD t at 0) 0xF4) || leb (getD t (at + 1) 0) 0x8F) && leb 0x80 (getD t (at + 2) 0) && leb (getD t (at + 2) 0) 0xBF && leb 0x80 (getD t (at + 3) 0) && leb (getD t (at + 3) 0) 0xBF ≡ true → widthIn (charAt t at) ≡ 4
-  pass-quad h e =
-      let b = getD t at 0 in
-      let x = getD t (at + 1) 0 in
-      let y = getD t (at + 2) 0 in
-      let z = getD t (at + 3) 0 in
-      let f = not (eqb b 0xF0) || leb 0x90 x in
-      let g = not (eqb b 0xF4) || leb x 0x8F in
-      let q₁ = both (leb 0xF0 b && leb b 0xF4 && leb 0x80 x && leb x 0xBF && f && g && leb 0x80 y && leb y 0xBF && leb 0x80 z) (leb z 0xBF) e in
-      let q₂ = both (leb 0xF0 b && leb b 0xF4 && leb 0x80 x && leb x 0xBF && f && g && leb 0x80 y && leb y 0xBF) (leb 0x80 z) (q₁ .0) in
-      let q₃ = both (leb 0xF0 b && leb b 0xF4 && leb 0x80 x && leb x 0xBF && f && g && leb 0x80 y) (leb y 0xBF) (q₂ .0) in
-      let q₄ = both (leb 0xF0 b && leb b 0xF4 && leb 0x80 x && leb x 0xBF && f && g) (leb 0x80 y) (q₃ .0) in
-      let q₅ = both (leb 0xF0 b && leb b 0xF4 && leb 0x80 x && leb x 0xBF && f) g (q₄ .0) in
-      let q₆ = both (leb 0xF0 b && leb b 0xF4 && leb 0x80 x && leb x 0xBF) f (q₅ .0) in
-      let q₇ = both (leb 0xF0 b && leb b 0xF4 && leb 0x80 x) (leb x 0xBF) (q₆ .0) in
-      let q₈ = both (leb 0xF0 b && leb b 0xF4) (leb 0x80 x) (q₇ .0) in
-      let q₉ = both (leb 0xF0 b) (leb b 0xF4) (q₈ .0) in
-      quad-rows t at (omega arith) (leb-true 0xF0 b (q₉ .0)) (leb-true b 0xF4 (q₉ .1)) (leb-true 0x80 x (q₈ .1)) (leb-true x 0xBF (q₇ .1))
-      (λ n. leb-true 0x90 x (unless b 0xF0 (leb 0x90 x) (q₆ .1) n)) (λ n. leb-true x 0x8F (unless b 0xF4 (leb x 0x8F) (q₅ .1) n))
-      (leb-true 0x80 y (q₄ .1)) (leb-true y 0xBF (q₃ .1)) (leb-true 0x80 z (q₂ .1)) (leb-true z 0xBF (q₁ .1))
-
-pub ruleset multis = (pass-not, pass-pair, pass-triple, pass-quad, needs)
+pub ruleset multis = (pass-not, pass-pair, pass-triple, needs)
 
 -- Rules of `width_at`
 pub width-is : (t : List ℕ) (at n : ℕ) {k : Bool} → (k ≡ true → widthIn (charAt t at) ≡ n) → k ≡ true → n ≡ widthIn (charAt t at)

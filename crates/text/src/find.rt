@@ -32,14 +32,13 @@ fn without_byte(t: &[u8], b: u8) -> bool
 }
 
 // Past blocks of 16 bytes without b: the first place of b is the same from there.
-fn past_blocks(t: &[u8], from: usize, b: u8) -> usize
-    ensures { λ r. ⌜ findAt b (now (t .entry)) from ≡ findAt b (now (t .entry)) r ⌝ }
+fn past_blocks(t: &[u8], mut at: usize, b: u8) -> usize
+    ensures { λ r. ⌜ findAt b (now (t .entry)) at ≡ findAt b (now (t .entry)) r ⌝ }
 {
     if t.len() < 16 {
-        return from;
+        return at;
     }
     let last = t.len() - 16;
-    let mut at = from;
     while at <= last {
         if without_byte(&t[at..at + 16], b) {
             at += 16;

@@ -22,14 +22,13 @@ fn sign(t: &[u8]) -> usize
 }
 
 // The number that the bytes from a place are, if it is at most limit.
-fn digits(t: &[u8], from: usize, limit: u64) -> Num
-    ensures { λ r. ⌜ r ≡ digitsAt limit (now (t .entry)) from ⌝ }
+fn digits(t: &[u8], mut at: usize, limit: u64) -> Num
+    ensures { λ r. ⌜ r ≡ digitsAt limit (now (t .entry)) at ⌝ }
 {
-    if t.len() <= from {
+    if t.len() <= at {
         return Num::Bad;
     }
     let mut v: u64 = 0;
-    let mut at = from;
     while at < t.len() {
         let b = t[at];
         if b < 0x30 {

@@ -34,17 +34,12 @@ pub fn first_byte(b: u8) -> Lead
     }
 }
 
-// A character of which n bytes are to follow from a place, the first of them in l to h, and whose bits so far are `bits`.
-fn tail(t: &[u8], from: usize, n: usize, l: u8, h: u8, bits: u32) -> Char
-    requires { ⌜ (bits < cap n) × (n ≤ 3) ⌝ }
-    ensures { λ r. ⌜ r ≡ tailAt (now (t .entry)) from n l h bits (n + 1) ⌝ }
+// A character of which n bytes are to follow from a place, the first of them in lo to hi, and whose bits so far are `code`.
+fn tail(t: &[u8], mut at: usize, n: usize, mut lo: u8, mut hi: u8, mut code: u32) -> Char
+    requires { ⌜ (code < cap n) × (n ≤ 3) ⌝ }
+    ensures { λ r. ⌜ r ≡ tailAt (now (t .entry)) at n lo hi code (n + 1) ⌝ }
 {
-    let width = n + 1;
-    let mut at = from;
     let mut more = n;
-    let mut lo = l;
-    let mut hi = h;
-    let mut code = bits;
     while 0 < more {
         if t.len() <= at {
             return Char::Bad;
@@ -62,7 +57,7 @@ fn tail(t: &[u8], from: usize, n: usize, l: u8, h: u8, bits: u32) -> Char
         lo = 0x80;
         hi = 0xBF;
     }
-    Char::Scalar(code, width)
+    Char::Scalar(code, n + 1)
 }
 
 // The character that starts at a place.

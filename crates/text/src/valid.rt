@@ -24,15 +24,14 @@ fn low(t: &[u8]) -> bool
 }
 
 // Past blocks of 16 bytes below 80, the last of which may overlap the one before it.
-fn past_blocks(t: &[u8], from: usize) -> usize
-    requires { ⌜ from ≤ length (now t) ⌝ }
-    ensures { λ r. ⌜ Passed (now (t .entry)) from r ⌝ }
+fn past_blocks(t: &[u8], mut at: usize) -> usize
+    requires { ⌜ at ≤ length (now t) ⌝ }
+    ensures { λ r. ⌜ Passed (now (t .entry)) at r ⌝ }
 {
     if t.len() < 16 {
-        return from;
+        return at;
     }
     let last = t.len() - 16;
-    let mut at = from;
     while at <= last {
         if low(&t[at..at + 16]) {
             at += 16;
@@ -97,24 +96,6 @@ fn triple_at(t: &[u8], at: usize) -> bool
     (0xE0 <= b) & (b <= 0xEF) & (0x80 <= x) & (x <= 0xBF) & (0x80 <= y) & (y <= 0xBF) & least & most
 }
 
-// Whether a character of four bytes stands at a place: three bytes 80 to BF, of which the first is 90 or above after F0, and 8F or below after F4.
-fn quad_at(t: &[u8], at: usize) -> bool
-    requires { ⌜ at < length (now t) ⌝ }
-    ensures { λ r. ⌜ (r ≡ true → widthIn (charAt (now (t .entry)) at) ≡ 4) ⌝ }
-{
-    if t.len() - at < 4 {
-        return false;
-    }
-    let b = t[at];
-    let x = t[at + 1];
-    let y = t[at + 2];
-    let z = t[at + 3];
-    let least = (b != 0xF0) | (0x90 <= x);
-    let most = (b != 0xF4) | (x <= 0x8F);
-    let first = (0xF0 <= b) & (b <= 0xF4) & (0x80 <= x) & (x <= 0xBF) & least & most;
-    first & (0x80 <= y) & (y <= 0xBF) & (0x80 <= z) & (z <= 0xBF)
-}
-
 // How many bytes the character at a place has, or 0 where there is none.
 fn width_at(t: &[u8], at: usize) -> usize
     requires { ⌜ at < length (now t) ⌝ }
@@ -127,9 +108,6 @@ fn width_at(t: &[u8], at: usize) -> usize
     } else {
         if triple_at(t, at) {
             return 3;
-        }
-        if quad_at(t, at) {
-            return 4;
         }
     }
     let c = next_char(&t[at..], 0);

@@ -8,11 +8,11 @@ use Rattle.text.proofs.utf8.tail.Statement.{statement}
 use Rattle.text.proofs.utf8.tail.Tie as tie
 
 abbrev Inv-loop : tie.InvT-loop
-Inv-loop t from n l h bits width at₀ more₀ lo₀ hi₀ code₀ at more lo hi code =
-    (tailAt t from n l h bits (n + 1) ≡ tailAt t at more lo hi code width) × (code < cap more)
+Inv-loop t at₀ n lo₀ hi₀ code₀ more₀ at lo hi code more =
+    (tailAt t at₀ n lo₀ hi₀ code₀ (n + 1) ≡ tailAt t at more lo hi code (n + 1)) × (code < cap more)
 
 abbrev μ-loop : tie.MeasureT-loop
-μ-loop t from n l h bits width at₀ more₀ lo₀ hi₀ code₀ at more lo hi code = more
+μ-loop t at₀ n lo₀ hi₀ code₀ more₀ at lo hi code more = more
 
 pub tail-spec : {M : Type 1} → statement M
 tail-spec =

@@ -1,4 +1,4 @@
--- `valid::past_blocks` meets its contract. The invariant: whole characters are passed from `from` to `at`; the bytes left fall.
+-- `valid::past_blocks` meets its contract. The invariant: whole characters are passed from where it began to `at`; the bytes left fall.
 use Prim.Native.Nat.{_-_}
 use lib.ListN.{length}
 use Rattle.text.specs.Blocks.{Passed}
@@ -7,10 +7,10 @@ use Rattle.text.proofs.valid.past_blocks.Statement.{statement}
 use Rattle.text.proofs.valid.past_blocks.Tie as tie
 
 abbrev Inv-loop : tie.InvT-loop
-Inv-loop t from last at₀ at = Passed t from at
+Inv-loop t at₀ last at = Passed t at₀ at
 
 abbrev μ-loop : tie.MeasureT-loop
-μ-loop t from last at₀ at = length t - at
+μ-loop t at₀ last at = length t - at
 
 pub past-blocks-spec : {M : Type 1} → statement M
 past-blocks-spec =
