@@ -47,38 +47,37 @@ fn no_desc() -> VmdkDesc
 }
 
 // The values with one of them set.
-fn set(desc: VmdkDesc, s: Setting) -> VmdkDesc
+fn set(mut desc: VmdkDesc, s: Setting) -> VmdkDesc
     ensures { λ r. ⌜ r ≡ setOf desc s ⌝ }
 {
-    let mut out = desc;
     match s {
         Setting::Version(v) => {
-            out.version = v;
-            out
+            desc.version = v;
+            desc
         }
         Setting::Cid(t) => {
-            out.cid = t;
-            out
+            desc.cid = t;
+            desc
         }
         Setting::ParentCid(t) => {
-            out.parent_cid = t;
-            out
+            desc.parent_cid = t;
+            desc
         }
         Setting::CreateType(t) => {
-            out.create_type = t;
-            out
+            desc.create_type = t;
+            desc
         }
         Setting::Sectors(n) => {
-            out.sectors = n;
-            out
+            desc.sectors = n;
+            desc
         }
         Setting::Heads(n) => {
-            out.heads = n;
-            out
+            desc.heads = n;
+            desc
         }
         Setting::Cylinders(n) => {
-            out.cylinders = n;
-            out
+            desc.cylinders = n;
+            desc
         }
     }
 }
