@@ -7,7 +7,7 @@
 The answers come from Python: its strict UTF-8 decoder, its integers, its table of the Unicode characters, and the rules as
 the paper states them. A vector is a line `KIND LENGTH TAG A B`, then LENGTH bytes of text and a byte 0A. The kinds:
 c character, b blank, t trim, w word, n number up to 2^64-1, v number up to 2^32-1, q quotes, s sectors, l line end,
-e first `=`, i is `version`, d starts with `ddb.`.
+e first `=`, i is `version`, d starts with `ddb.`, k which key.
 """
 import os, re, sys
 
@@ -18,6 +18,8 @@ WHITE_SPACE = [0x09, 0x0A, 0x0B, 0x0C, 0x0D, 0x20, 0x85, 0xA0, 0x1680, 0x2000, 0
 assert WHITE_SPACE == [c for c in range(0x110000) if chr(c).isspace() and not 0x1C <= c <= 0x1F]
 BLANKS = "".join(map(chr, WHITE_SPACE))
 MOST = 2 ** 64 - 1
+KEYS = [b"version", b"CID", b"parentCID", b"createType", b"parentFileNameHint",
+        b"ddb.geometry.sectors", b"ddb.geometry.heads", b"ddb.geometry.cylinders"]
 
 
 def char(t):
@@ -81,6 +83,8 @@ def answer(kind, t):
         return (int(t == b"version"), 0, 0)
     if kind == "d":
         return (int(t.startswith(b"ddb.")), 0, 0)
+    if kind == "k":
+        return (KEYS.index(t) + 1 if t in KEYS else 9 if t.startswith(b"ddb.") else 0, 0, 0)
 
 
 def vectors():
@@ -138,6 +142,11 @@ def vectors():
         yield "i", t
     for t in (b"", b"ddb", b"ddb.", b"ddb.x", b"Ddb.", b"xddb.", b"ddb:"):
         yield "d", t
+    for t in KEYS + [b"ddb."]:
+        for k in (t, t[:-1], t[1:], t + b"s", b" " + t, t.lower(), t.upper(), t + b"\x00"):
+            yield "k", k
+    for t in (b"", b"ddb", b"ddb.geometry", b"ddb.geometry.", b"ddb.uuid", b"encoding", b"cid", b"parentcid"):
+        yield "k", t
 
 
 def files():

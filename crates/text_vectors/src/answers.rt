@@ -1,4 +1,6 @@
-// The answer of each function of the text layer, as three numbers.
+// The answer of each function of the text layer, and which key a text is, as three numbers.
+use keys::key::Geometry;
+use keys::key::Key;
 use text::find::Place;
 use text::number::Num;
 use text::sector::ByteCount;
@@ -135,10 +137,34 @@ fn equals(t: &[u8]) -> Answer {
     }
 }
 
+// Which of the geometry's keys.
+fn geometry(g: Geometry) -> Answer {
+    match g {
+        Geometry::Sectors => bare(6),
+        Geometry::Heads => bare(7),
+        Geometry::Cylinders => bare(8),
+    }
+}
+
+// k: which key a text is.
+fn key(t: &[u8]) -> Answer {
+    let k = keys::key::key_of(t);
+    match k {
+        Key::Version => bare(1),
+        Key::Cid => bare(2),
+        Key::ParentCid => bare(3),
+        Key::CreateType => bare(4),
+        Key::ParentFileNameHint => bare(5),
+        Key::Geometry(g) => geometry(g),
+        Key::Ddb => bare(9),
+        Key::Unknown => bare(0),
+    }
+}
+
 // The answer of the function that a kind names.
 pub fn ask(kind: &[u8], t: &[u8]) -> Answer {
     if kind.len() == 0 {
-        return bare(9);
+        return bare(10);
     }
     let k = kind[0];
     match k {
@@ -154,6 +180,7 @@ pub fn ask(kind: &[u8], t: &[u8]) -> Answer {
         b'e' => equals(t),
         b'i' => yes(text::find::is(t, b"version")),
         b'd' => yes(text::find::starts_with(t, b"ddb.")),
-        _ => bare(9),
+        b'k' => key(t),
+        _ => bare(10),
     }
 }

@@ -1,4 +1,4 @@
-// Runs the text layer on vectors from standard input: writes each answer, then how many vectors were run and how many failed.
+// Runs the text layer, and the keys, on vectors from standard input: writes each answer, then how many vectors were run and how many failed.
 //
 // A vector is a line `KIND LENGTH TAG A B`, then LENGTH bytes of text and a byte 0A. TAG, A and B are the answer that is expected;
 // the input, and the output that goes with it, are made by compare/vectors.py, which takes the answers from Python's own Unicode.
