@@ -1,4 +1,7 @@
-//! The time that this thread has run: on a machine that others use too, a pause is not counted. And the processor that it runs on.
+//! The time that this thread has run: on a machine that others use too, a pause is not counted. And the processor that it runs on: which, how
+//! fast it is, and whether another thread has a part of it.
+
+use std::arch::asm;
 
 /// Seconds and nanoseconds, as the C library has them on 64-bit Linux.
 #[repr(C)]
@@ -7,9 +10,6 @@ struct Timespec {
     seconds: i64,
     nanoseconds: i64,
 }
-
-/// So many links has the chain.
-const LINKS: u64 = 20_000;
 
 /// The clock that counts this thread's own time.
 const CLOCK_THREAD_CPUTIME_ID: i32 = 3;
@@ -41,12 +41,51 @@ pub fn nanoseconds() -> u64 {
     time.seconds as u64 * 1_000_000_000 + time.nanoseconds as u64
 }
 
-/// The nanoseconds of a link of a chain: a multiplication and an addition, which wait for the link before, 4 cycles on the processors of
-/// this kind. So it tells how fast the processor runs.
-pub fn link() -> f64 {
+/// How the processor runs at a moment.
+#[derive(Clone, Copy)]
+pub struct Pace {
+    /// The nanoseconds of a cycle
+    pub cycle: f64,
+    /// The cycles of a turn of `additions`: more where another thread has a part of the processor's core
+    pub turn: f64,
+}
+
+/// How the processor runs now. Where its cycles do not last, a turn has no end.
+pub fn pace() -> Pace {
+    let tries = [(); 3].map(|()| [each(20_000, multiplications) / 3.0, each(10_000, additions)]);
+    let least = |of: fn(&[f64; 2]) -> f64| tries.iter().map(of).fold(f64::INFINITY, f64::min);
+    let cycle = least(|[cycle, _]| *cycle);
+    let lasts = tries.iter().all(|[other, _]| *other <= cycle * 1.01);
+    Pace { cycle, turn: if lasts { least(|[_, turn]| *turn) / cycle } else { f64::INFINITY } }
+}
+
+/// The nanoseconds that each of so many turns takes.
+fn each(turns: u64, act: fn(u64)) -> f64 {
     let start = nanoseconds();
-    let (factor, addend) = std::hint::black_box((6_364_136_223_846_793_005u64, 1_442_695_040_888_963_407u64));
-    let end = (0..LINKS).fold(std::hint::black_box(1u64), |x, _| x.wrapping_mul(factor).wrapping_add(addend));
-    std::hint::black_box(end);
-    (nanoseconds() - start) as f64 / LINKS as f64
+    act(turns);
+    (nanoseconds() - start) as f64 / turns as f64
+}
+
+/// Multiplications, each of which waits for the one before: 3 cycles, on the x86-64 processors of the last ten years.
+fn multiplications(turns: u64) {
+    // Safe: it changes its two registers and the flags
+    unsafe {
+        asm!("2:", "imul {x}, {x}", "dec {n}", "jnz 2b", x = inout(reg) 3u64 => _, n = inout(reg) turns => _)
+    }
+}
+
+/// Turns of 16 additions that hardly wait for each other: as many at a time as the core can do.
+fn additions(turns: u64) {
+    // Safe: it changes its registers and the flags
+    unsafe {
+        asm!(
+            "2:",
+            "add {a}, 1", "add {b}, 1", "add {c}, 1", "add {d}, 1", "add {e}, 1", "add {f}, 1", "add {g}, 1", "add {h}, 1",
+            "add {a}, 1", "add {b}, 1", "add {c}, 1", "add {d}, 1", "add {e}, 1", "add {f}, 1", "add {g}, 1", "add {h}, 1",
+            "dec {n}", "jnz 2b",
+            a = inout(reg) 0u64 => _, b = inout(reg) 0u64 => _, c = inout(reg) 0u64 => _, d = inout(reg) 0u64 => _,
+            e = inout(reg) 0u64 => _, f = inout(reg) 0u64 => _, g = inout(reg) 0u64 => _, h = inout(reg) 0u64 => _,
+            n = inout(reg) turns => _
+        )
+    }
 }

@@ -2,7 +2,7 @@
 //!
 //! - `bench [WORDS]`: the table of times, of the works whose names hold WORDS
 //! - `bench list`: the works' names, a line each
-//! - `bench rounds NAMES`: a round of each of these works, in this process: what a link of the clock's chain took, and the figures
+//! - `bench rounds ALONE NAMES`: a round of each of these works, in this process, for the process that makes the table
 //! - `bench once rust|ours WORK COUNT`: a work alone, so many times, for counting instructions
 
 mod clock;
@@ -13,7 +13,7 @@ mod ours;
 mod rust;
 mod sums;
 
-use measure::Figure;
+use measure::{Figure, Round};
 use rust::Reel;
 use std::sync::Arc;
 
@@ -110,10 +110,10 @@ fn main() {
     match words[..] {
         ["list"] => works().iter().for_each(|work| println!("{}", work.name)),
         ["once", side, name, count] => once(side, name, count.parse().expect("a number of times")),
-        ["rounds", ref names @ ..] => rounds(names),
+        ["rounds", alone, ref names @ ..] => rounds(alone.parse().expect("a number"), names),
         [] => table(""),
         [part] => table(part),
-        _ => panic!("bench [WORDS] | list | rounds NAMES | once rust|ours WORK COUNT"),
+        _ => panic!("bench [WORDS] | list | rounds ALONE NAMES | once rust|ours WORK COUNT"),
     }
 }
 
@@ -125,14 +125,12 @@ fn once(side: &str, name: &str, count: u64) {
 }
 
 /// A round of each of some works.
-fn rounds(names: &[&str]) {
+fn rounds(mut alone: f64, names: &[&str]) {
     clock::pin();
     let works = works();
-    for name in names {
-        let work = works.iter().find(|work| work.name == *name).expect("a work's name");
-        let (link, figures) = measure::round(work);
-        println!("{link}{}", figures.iter().map(|figure| format!(" {figure}")).collect::<String>());
-    }
+    let named = |name: &&str| works.iter().find(|work| work.name == *name).expect("a work's name");
+    let rounds: Vec<Round> = names.iter().map(|name| measure::round(named(name), &mut alone)).collect();
+    measure::print(alone, &rounds);
 }
 
 /// The table of times.
@@ -144,13 +142,14 @@ fn table(part: &str) {
             assert!(same, "the two sides answer differently: {}", work.name);
         }
     }
-    let (figures, links) = measure::measure(&works);
-    let [fast, slow] = links.map(|link| 4.0 / link);
-    println!("The processor ran at {slow:.2} to {fast:.2} GHz; ns are for 3 GHz.");
+    let measured = measure::measure(&works);
+    let [fast, slow] = measured.cycle.map(|cycle| 1.0 / cycle);
+    let [rounds, shared] = measured.rounds;
+    println!("The processor ran at {slow:.2} to {fast:.2} GHz; ns are for 3 GHz. {rounds} rounds, {shared} of them on a shared core alone.");
     println!();
     println!("| work | Rust, ns | ours, ns | ours / Rust | halves differ: Rust | ours | ratio |");
     println!("|---|---|---|---|---|---|---|");
-    for (work, sides) in works.iter().zip(&figures) {
+    for (work, sides) in works.iter().zip(&measured.figures) {
         println!("| {} |{}", work.name, row(sides));
     }
 }

@@ -6,8 +6,8 @@ use std::process::Command;
 /// A slice of a side takes about so many nanoseconds, or one time of its work where that is longer.
 const SLICE: u64 = 1_000_000;
 
-/// A round of a work takes so many nanoseconds.
-const ROUND: u64 = 200_000_000;
+/// A round of a work has slices that count of so many nanoseconds together, and takes at most so many.
+const ROUND: [u64; 2] = [200_000_000, 1_000_000_000];
 
 /// A work has at least and at most so many pairs of rounds, each in a process of its own.
 const PAIRS: [usize; 2] = [3, 15];
@@ -15,8 +15,11 @@ const PAIRS: [usize; 2] = [3, 15];
 /// A side's figure is stable where that of its even rounds and that of its odd ones differ by at most this part.
 const STABLE: f64 = 0.02;
 
-/// The figures are for a processor that takes so many nanoseconds for a link of the chain: 4 cycles at 3 GHz.
-const LINK: f64 = 4.0 / 3.0;
+/// A slice counts where a turn of the clock's additions, before it and after it, takes at most so many times the least that was seen.
+const ALONE: f64 = 1.05;
+
+/// The figures are for a processor whose cycle takes so many nanoseconds: 3 GHz.
+const CYCLE: f64 = 1.0 / 3.0;
 
 /// What the rounds of a side have shown: the least nanoseconds of one time, in even rounds and in odd ones.
 #[derive(Clone, Copy)]
@@ -48,7 +51,7 @@ pub fn apart([a, b]: [f64; 2]) -> f64 {
 struct Side<'a> {
     run: &'a Run,
     /// So many times in a slice
-    count: u64,
+    times: u64,
     /// The least nanoseconds of a slice
     least: u64,
     /// The least nanoseconds of the work done no time: the reading of the table, where it is to be mapped or walked
@@ -57,22 +60,27 @@ struct Side<'a> {
 
 impl<'a> Side<'a> {
     fn new(run: &'a Run) -> Self {
-        let mut count = 1;
-        while time(run, count) < SLICE / 2 {
-            count *= 2;
+        let mut times = 1;
+        while time(run, times) < SLICE / 2 {
+            times *= 2;
         }
-        Side { run, count, least: u64::MAX, none: u64::MAX }
+        Side { run, times, least: u64::MAX, none: u64::MAX }
     }
 
-    /// One slice more.
-    fn slice(&mut self) {
-        self.least = self.least.min(time(self.run, self.count));
-        self.none = self.none.min(time(self.run, 0));
+    /// What one slice more takes: of the work, and of the work done no time.
+    fn slice(&self) -> [u64; 2] {
+        [time(self.run, self.times), time(self.run, 0)]
+    }
+
+    /// A slice that counts.
+    fn count(&mut self, [some, none]: [u64; 2]) {
+        self.least = self.least.min(some);
+        self.none = self.none.min(none);
     }
 
     /// The nanoseconds of one time.
     fn nanoseconds(&self) -> f64 {
-        self.least.saturating_sub(self.none) as f64 / self.count as f64
+        self.least.saturating_sub(self.none) as f64 / self.times as f64
     }
 }
 
@@ -95,54 +103,97 @@ fn below(frames: usize, act: &mut dyn FnMut()) {
     std::hint::black_box(&frame);
 }
 
-/// A round of a work: slices of its sides in turns, at one place of the stack after the other. What a link of the chain took,
-/// and the figure of each side for a processor that takes LINK for it.
-pub fn round(work: &Work) -> (f64, Vec<f64>) {
+/// What a round has shown: the least nanoseconds of a cycle, and the figure of each side for a processor whose cycle takes CYCLE.
+/// None, if no slice counted.
+pub type Round = Option<(f64, Vec<f64>)>;
+
+/// A round of a work: slices of its sides in turns, at one place of the stack after the other. `alone` is the least cycles of a turn
+/// of the clock's additions that were seen.
+pub fn round(work: &Work, alone: &mut f64) -> Round {
     let mut sides: Vec<Side> =
         [Some(&work.rust), work.ours.as_ref()].into_iter().flatten().map(Side::new).collect();
-    let mut link = f64::INFINITY;
-    let mut frames = 0;
+    let (mut cycle, mut counted, mut frames) = (f64::INFINITY, 0, 0);
     let start = clock::nanoseconds();
-    while clock::nanoseconds() - start < ROUND {
-        link = link.min(clock::link());
-        below(frames % 16, &mut || sides.iter_mut().for_each(Side::slice));
+    let mut before = clock::pace();
+    while counted < ROUND[0] && clock::nanoseconds() - start < ROUND[1] {
+        let mut slices = Vec::new();
+        below(frames % 16, &mut || slices = sides.iter().map(Side::slice).collect());
         frames += 1;
+        let after = clock::pace();
+        *alone = alone.min(before.turn).min(after.turn);
+        if before.turn.max(after.turn) <= *alone * ALONE {
+            cycle = cycle.min(before.cycle).min(after.cycle);
+            sides.iter_mut().zip(&slices).for_each(|(side, slice)| side.count(*slice));
+            counted += slices.iter().flatten().sum::<u64>();
+        }
+        before = after;
     }
-    (link, sides.iter().map(|side| side.nanoseconds() * LINK / link).collect())
+    (counted > 0).then(|| (cycle, sides.iter().map(|side| side.nanoseconds() * CYCLE / cycle).collect()))
 }
 
-/// A process that does a round of each of some works: for each work a line, what a link took and then the figures.
-fn process(names: &[&str]) -> Vec<Vec<f64>> {
+/// A process that does a round of each of some works.
+fn process(alone: &mut f64, names: &[&str]) -> Vec<Round> {
     let program = std::env::current_exe().expect("the benchmark's own file");
-    let output = Command::new(program).arg("rounds").args(names).output().expect("a process");
+    let output =
+        Command::new(program).args(["rounds", &alone.to_string()]).args(names).output().expect("a process");
     assert!(output.status.success(), "{}", String::from_utf8_lossy(&output.stderr));
     let lines = String::from_utf8(output.stdout).expect("numbers");
-    lines.lines().map(|line| line.split(' ').map(|n| n.parse().expect("a number")).collect()).collect()
+    let mut lines = lines.lines();
+    *alone = lines.next().expect("the least cycles of a turn").parse().expect("a number");
+    lines
+        .map(|line| {
+            let mut numbers = line.split_whitespace().map(|n| n.parse().expect("a number"));
+            numbers.next().map(|cycle| (cycle, numbers.collect()))
+        })
+        .collect()
 }
 
-/// The figures of each work's sides, and the least and the most that a link took in a round.
-pub fn measure(works: &[Work]) -> (Vec<Vec<Figure>>, [f64; 2]) {
-    let mut links = [f64::INFINITY, 0.0];
-    let mut figures: Vec<Vec<Figure>> = works
-        .iter()
-        .map(|work| vec![Figure([f64::INFINITY; 2]); 1 + usize::from(work.ours.is_some())])
-        .collect();
+/// What `process` reads: the least cycles of a turn that were seen, and for each work a line, which is empty where no slice counted.
+pub fn print(alone: f64, rounds: &[Round]) {
+    println!("{alone}");
+    for round in rounds {
+        let numbers = round.iter().flat_map(|(cycle, figures)| std::iter::once(cycle).chain(figures));
+        println!("{}", numbers.map(f64::to_string).collect::<Vec<_>>().join(" "));
+    }
+}
+
+/// What was measured of some works.
+pub struct Measured {
+    /// The figures of each work's sides
+    pub figures: Vec<Vec<Figure>>,
+    /// The least and the most nanoseconds of a cycle, of all rounds
+    pub cycle: [f64; 2],
+    /// How many rounds there were, and how many of them had no slice that counted
+    pub rounds: [usize; 2],
+}
+
+/// Time the sides of some works, round after round.
+pub fn measure(works: &[Work]) -> Measured {
+    let none = |work: &Work| vec![Figure([f64::INFINITY; 2]); 1 + usize::from(work.ours.is_some())];
+    let mut all =
+        Measured { figures: works.iter().map(none).collect(), cycle: [f64::INFINITY, 0.0], rounds: [0, 0] };
+    let mut alone = f64::INFINITY;
     for pair in 0..PAIRS[1] {
         let open: Vec<usize> = (0..works.len())
-            .filter(|i| pair < PAIRS[0] || figures[*i].iter().any(|figure| STABLE < figure.apart()))
+            .filter(|i| pair < PAIRS[0] || !all.figures[*i].iter().all(|figure| figure.apart() <= STABLE))
             .collect();
         if open.is_empty() {
             break;
         }
         let names: Vec<&str> = open.iter().map(|i| works[*i].name.as_str()).collect();
         for half in [0, 1] {
-            for (i, line) in open.iter().zip(process(&names)) {
-                links = [links[0].min(line[0]), links[1].max(line[0])];
-                for (figure, now) in figures[*i].iter_mut().zip(&line[1..]) {
-                    figure.0[half] = figure.0[half].min(*now);
+            for (i, round) in open.iter().zip(process(&mut alone, &names)) {
+                all.rounds[0] += 1;
+                let Some((cycle, figures)) = round else {
+                    all.rounds[1] += 1;
+                    continue;
+                };
+                all.cycle = [all.cycle[0].min(cycle), all.cycle[1].max(cycle)];
+                for (figure, now) in all.figures[*i].iter_mut().zip(figures) {
+                    figure.0[half] = figure.0[half].min(now);
                 }
             }
         }
     }
-    (figures, links)
+    all
 }
