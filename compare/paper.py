@@ -284,73 +284,80 @@ def mapping(rows, size, offset, length):
 
 def walk(rows, size, offset, length, places):
     """The pieces' lines, then the line of the walk's end."""
-    position, left, count, total = offset, length, 0, 0
+    position, left, count, total, number = offset, length, 0, 0, 0
     while True:
         if left == 0 or position >= size:
-            stop = "done"
+            stop = "d"
             break
         if count >= places or count >= MOST_ROWS:
-            stop = "more"
+            stop = "m"
             break
         kind, run, row, file_offset, access, name, looked = mapping(rows, size, position, left)
         total += looked
         if kind == "end":
-            stop = "done"
+            stop = "d"
             break
         if kind in (21, 22):
-            stop = f"refused {kind} 0"
+            stop, number = "w", kind
             break
         if kind == "raw":
-            yield f"{position} {run} raw {file_offset} row {row} {access} {in_hex(name)}"
+            yield line("D", position, run, row, writable(access), file_offset, text=name)
         else:
-            yield f"{position} {run} zero row {row}"
+            yield line("O", position, run, row)
         count += 1
         position += run
         left -= run
-    yield f"{stop} at {position} pieces {count} looked {total}"
+    yield line(stop, position, count, total, number)
 
 
-def in_hex(text):
-    return text.encode("utf-8").hex()
+def line(letter, *numbers, text=""):
+    """A line of an answer: a letter, five numbers (those not given are 0), and the bytes of a text."""
+    none = [0] * (5 - len(numbers))
+    return " ".join(map(str, [letter, *numbers, *none, *text.encode("utf-8")]))
 
 
-def answer(descriptor, queries):
+def writable(access):
+    return 1 if access == "RW" else 0
+
+
+def answer(case, descriptor, queries):
     """The lines of the answer to a case."""
-    yield "probe yes" if probe(descriptor) else "probe no"
+    probed = 1 if probe(descriptor) else 0
     try:
         record = read(descriptor)
         rows = build(record)
     except Refused as refused:
-        yield "refused %d %d" % refused.args
+        yield line("c", case, probed, *refused.args)
         return
+    yield line("c", case, probed)
     size = rows[-1][1] if rows else 0
-    yield f"version {record.version}"
-    yield f"cid {in_hex(record.cid)}"
-    yield f"parentcid {in_hex(record.parent_cid)}"
-    yield f"createtype {in_hex(record.create_type)}"
-    yield "geometry {sectors} {heads} {cylinders}".format(**record.geometry)
-    yield f"size {size}"
-    yield f"extents {len(rows)}"
+    geometry = record.geometry
+    yield line("v", record.version, geometry["sectors"], geometry["heads"], geometry["cylinders"], text=record.cid)
+    yield line("p", text=record.parent_cid)
+    yield line("t", size, len(rows), text=record.create_type)
     for index, (start, end, access, kind, file_start, name) in enumerate(rows):
         if kind == "FLAT":
-            yield f"{index} {start} {end} FLAT {access} {file_start} {in_hex(name)}"
+            yield line("F", index, start, end, writable(access), file_start, text=name)
         elif kind == "ZERO":
-            yield f"{index} {start} {end} ZERO {access}"
+            yield line("Z", index, start, end, writable(access))
         else:
-            yield f"{index} {start} {end} NOACCESS"
+            yield line("N", index, start, end)
     for what, offset, length, places in queries:
         if what == 1:
             yield from walk(rows, size, offset, length, places)
-            continue
-        kind, run, row, file_offset, access, name, looked = mapping(rows, size, offset, length)
-        if kind == "raw":
-            yield f"raw {file_offset} run {run} row {row} {access} looked {looked} {in_hex(name)}"
-        elif kind == "zero":
-            yield f"zero run {run} row {row} looked {looked}"
-        elif kind == "end":
-            yield f"end run 0 looked {looked}"
         else:
-            yield f"refused {kind} 0 run 0 looked {looked}"
+            yield map_line(*mapping(rows, size, offset, length))
+
+
+def map_line(kind, run, row, file_offset, access, name, looked):
+    """The line of a mapping."""
+    if kind == "raw":
+        return line("r", run, looked, row, writable(access), file_offset, text=name)
+    if kind == "zero":
+        return line("z", run, looked, row)
+    if kind == "end":
+        return line("e", run, looked)
+    return line("x", run, looked, kind)
 
 
 def main():
@@ -363,8 +370,7 @@ def main():
         count = data[at]
         queries = [struct.unpack_from("<BQQB", data, at + 1 + 18 * i) for i in range(count)]
         at += 1 + 18 * count
-        out.write(f"case {case}\n")
-        out.write("".join(line + "\n" for line in answer(descriptor, queries)))
+        out.write("".join(line + "\n" for line in answer(case, descriptor, queries)))
         case += 1
 
 

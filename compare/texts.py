@@ -3,9 +3,9 @@
 
     compare/texts.py [PAPER] > crates/vmdkmap_cases/stdout
 
-PAPER is paper.py, which stands beside this file; it is written from document 01 alone. It answers whole cases with names in hex
-(FORMAT.md); here the lines that a mode writes are picked out, and the names are written as their bytes. The rules of the arguments
-and number 24 are written out below.
+PAPER is paper.py, which stands beside this file; it is written from document 01 alone. It answers whole cases, in lines of a letter
+and numbers (FORMAT.md); here the lines that a mode writes are picked out and put into the program's words. The rules
+of the arguments and number 24 are written out below.
 """
 import re
 import struct
@@ -40,30 +40,45 @@ def asked(words):
 
 
 def paper(descriptor, queries):
-    """The lines that paper.py answers to one case, without its first."""
+    """The lines that paper.py answers to one case: of each the letter, the five numbers, and the text's bytes."""
     case = struct.pack("<I", len(descriptor)) + descriptor + bytes([len(queries)])
     for query in queries:
         case += struct.pack("<BQQB", *query)
     out = subprocess.run([sys.executable, PAPER], input=case, stdout=subprocess.PIPE, check=True).stdout
-    return out.decode().split("\n")[1:-1]
+    for line in out.decode().split("\n")[:-1]:
+        letter, *numbers = line.split(" ")
+        yield letter, [int(number) for number in numbers[:5]], bytes(map(int, numbers[5:]))
 
 
-def named(line, words):
-    """A line whose last word, after so many others, is a name in hex."""
-    head = line.split(" ", words)
-    return " ".join(head[:-1]).encode() + b" " + bytes.fromhex(head[-1])
+def first(numbers):
+    """The lines of a case's first line: what the probe says, and the refusal."""
+    _, probed, number, second, _ = numbers
+    lines = [b"probe yes" if probed else b"probe no"]
+    return lines + [b"refused %d %d" % (number, second)] if number else lines
 
 
-def text(line):
-    """A line of an answer as the program writes it."""
-    words = line.split(" ")
-    if words[0] == "raw":
-        return named(line, 9)
-    if len(words) > 3 and words[3] == "FLAT":
-        return named(line, 6)
-    if len(words) > 2 and words[2] == "raw":
-        return named(line, 7)
-    return line.encode()
+def texts(letter, numbers, text):
+    """A line of an answer as the lines that the program writes."""
+    a, b, c, d, e = numbers
+    access = b"RW" if d else b"RDONLY"
+    return {
+        "c": lambda: first(numbers),
+        "v": lambda: [b"version %d" % a],
+        "p": lambda: [],
+        "t": lambda: [b"size %d" % a, b"extents %d" % b],
+        "F": lambda: [b"%d %d %d FLAT %s %d %s" % (a, b, c, access, e, text)],
+        "Z": lambda: [b"%d %d %d ZERO %s" % (a, b, c, access)],
+        "N": lambda: [b"%d %d %d NOACCESS" % (a, b, c)],
+        "r": lambda: [b"raw %d run %d row %d %s looked %d %s" % (e, a, c, access, b, text)],
+        "z": lambda: [b"zero run %d row %d looked %d" % (a, c, b)],
+        "e": lambda: [b"end run %d looked %d" % (a, b)],
+        "x": lambda: [b"refused %d %d run %d looked %d" % (c, d, a, b)],
+        "D": lambda: [b"%d %d raw %d row %d %s %s" % (a, b, e, c, access, text)],
+        "O": lambda: [b"%d %d zero row %d" % (a, b, c)],
+        "d": lambda: [b"done at %d pieces %d looked %d" % (a, b, c)],
+        "m": lambda: [b"more at %d pieces %d looked %d" % (a, b, c)],
+        "w": lambda: [b"refused %d %d at %d pieces %d looked %d" % (d, e, a, b, c)],
+    }[letter]()
 
 
 def answer(descriptor, mode):
@@ -71,16 +86,12 @@ def answer(descriptor, mode):
     if len(descriptor) > MOST_INPUT:
         return [b"refused 24 0"]
     if mode[0] == "report":
-        lines = paper(descriptor, [])
-        left_out = ("cid ", "parentcid ", "createtype ", "geometry ")
-        return [text(line) for line in lines if not line.startswith(left_out)]
+        return [text for line in paper(descriptor, []) for text in texts(*line)]
     query = (0, mode[1], mode[2], 0) if mode[0] == "map" else (1, *mode[1:])
-    lines = paper(descriptor, [query])
-    if lines[1].startswith("refused "):
-        return [text(lines[1])]
-    head = 1 + 5 + 2
-    rows = int(lines[head - 1].split(" ")[1])
-    return [text(line) for line in lines[head + rows:]]
+    start, *lines = paper(descriptor, [query])
+    if not lines:
+        return first(start[1])[1:]
+    return [text for line in lines if line[0] in "rzexDOdmw" for text in texts(*line)]
 
 
 def main():

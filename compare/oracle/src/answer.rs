@@ -62,14 +62,27 @@ pub fn walk(image: &Image, offset: u64, length: u64, places: usize) -> Walked<'_
     Walked { pieces, stop, at, looked }
 }
 
+/// A line of an answer: its letter, its numbers and its text, as `FORMAT.md` has them.
+struct Line<'a>(char, [u64; 5], &'a str);
+
+impl Line<'_> {
+    /// Write the line: the letter, the numbers, and the text's bytes.
+    fn write(&self, out: &mut impl Write) -> io::Result<()> {
+        let Line(letter, [a, b, c, d, e], text) = self;
+        write!(out, "{letter} {a} {b} {c} {d} {e}")?;
+        text.bytes().try_for_each(|byte| write!(out, " {byte}"))?;
+        writeln!(out)
+    }
+}
+
 /// Write the answer to a case; `number` counts the cases of a file from 0.
 pub fn write(case: &Case, number: u64, out: &mut impl Write) -> io::Result<()> {
     let descriptor = Store::Descriptor(Arc::from(&case.descriptor[..]));
-    writeln!(out, "case {number}")?;
-    writeln!(out, "probe {}", if opened::probe(&descriptor) { "yes" } else { "no" })?;
+    let probed = opened::probe(&descriptor).into();
     match opened::open(&descriptor) {
-        Err(Refusal { number, second }) => writeln!(out, "refused {number} {second}"),
+        Err(refusal) => Line('c', [number, probed, refusal.number, refusal.second, 0], "").write(out),
         Ok(image) => {
+            Line('c', [number, probed, 0, 0, 0], "").write(out)?;
             write_image(&image, out)?;
             case.queries.iter().try_for_each(|query| write_query(&image, *query, out))
         }
@@ -80,88 +93,62 @@ pub fn write(case: &Case, number: u64, out: &mut impl Write) -> io::Result<()> {
 fn write_image(image: &Image, out: &mut impl Write) -> io::Result<()> {
     let [cid, parent_cid, create_type] = image.texts();
     let [sectors, heads, cylinders] = image.geometry();
-    writeln!(out, "version {}", image.version())?;
-    writeln!(out, "cid {}", hex(cid))?;
-    writeln!(out, "parentcid {}", hex(parent_cid))?;
-    writeln!(out, "createtype {}", hex(create_type))?;
-    writeln!(out, "geometry {sectors} {heads} {cylinders}")?;
-    writeln!(out, "size {}", image.size())?;
-    writeln!(out, "extents {}", image.rows())?;
-    for row in 0..image.rows() {
-        let range = image.range(row);
-        write!(out, "{row} {} {} ", range.start, range.end)?;
-        match image.source(row) {
-            Source::Flat { writable, file_start, name } => {
-                writeln!(out, "FLAT {} {file_start} {}", access(writable), hex(name))?
-            }
-            Source::Zero { writable } => writeln!(out, "ZERO {}", access(writable))?,
-            Source::NoAccess => writeln!(out, "NOACCESS")?,
+    Line('v', [image.version().into(), sectors, heads, cylinders, 0], cid).write(out)?;
+    Line('p', [0; 5], parent_cid).write(out)?;
+    Line('t', [image.size(), image.rows() as u64, 0, 0, 0], create_type).write(out)?;
+    (0..image.rows()).try_for_each(|row| row_line(image, row).write(out))
+}
+
+/// The line of a row.
+fn row_line(image: &Image, row: usize) -> Line<'_> {
+    let (number, range) = (row as u64, image.range(row));
+    match image.source(row) {
+        Source::Flat { writable, file_start, name } => {
+            Line('F', [number, range.start, range.end, writable.into(), file_start], name)
         }
+        Source::Zero { writable } => Line('Z', [number, range.start, range.end, writable.into(), 0], ""),
+        Source::NoAccess => Line('N', [number, range.start, range.end, 0, 0], ""),
     }
-    Ok(())
 }
 
 /// Write a query's lines.
 fn write_query(image: &Image, query: Query, out: &mut impl Write) -> io::Result<()> {
     match query {
-        Query::Map { offset, length } => write_mapping(image, offset, length, out),
+        Query::Map { offset, length } => map_line(image, offset, length).write(out),
         Query::Walk { offset, length, places } => {
             write_walk(&walk(image, offset, length, places.into()), out)
         }
     }
 }
 
-/// Write the line of a mapping.
-fn write_mapping(image: &Image, offset: u64, length: u64, out: &mut impl Write) -> io::Result<()> {
+/// The line of a mapping.
+fn map_line(image: &Image, offset: u64, length: u64) -> Line<'_> {
     let looked = image.looked(offset);
     match image.map(offset, length) {
-        Mapping::Raw { file_offset, run, row, writable, name } => writeln!(
-            out,
-            "raw {file_offset} run {run} row {row} {} looked {looked} {}",
-            access(writable),
-            hex(name)
-        ),
-        Mapping::Zero { run, row } => writeln!(out, "zero run {run} row {row} looked {looked}"),
-        Mapping::End => writeln!(out, "end run 0 looked {looked}"),
-        Mapping::Refused(Refusal { number, second }) => {
-            writeln!(out, "refused {number} {second} run 0 looked {looked}")
+        Mapping::Raw { file_offset, run, row, writable, name } => {
+            Line('r', [run, looked, row as u64, writable.into(), file_offset], name)
         }
+        Mapping::Zero { run, row } => Line('z', [run, looked, row as u64, 0, 0], ""),
+        Mapping::End => Line('e', [0, looked, 0, 0, 0], ""),
+        Mapping::Refused(Refusal { number, second }) => Line('x', [0, looked, number, second, 0], ""),
     }
 }
 
 /// Write the lines of a walk: its pieces, then its end.
 fn write_walk(walked: &Walked<'_>, out: &mut impl Write) -> io::Result<()> {
     for Piece { start, mapping } in &walked.pieces {
-        match mapping {
-            Mapping::Raw { file_offset, run, row, writable, name } => writeln!(
-                out,
-                "{start} {run} raw {file_offset} row {row} {} {}",
-                access(*writable),
-                hex(name)
-            )?,
-            Mapping::Zero { run, row } => writeln!(out, "{start} {run} zero row {row}")?,
+        match *mapping {
+            Mapping::Raw { file_offset, run, row, writable, name } => {
+                Line('D', [*start, run, row as u64, writable.into(), file_offset], name).write(out)?
+            }
+            Mapping::Zero { run, row } => Line('O', [*start, run, row as u64, 0, 0], "").write(out)?,
             Mapping::End | Mapping::Refused(_) => panic!("no piece"),
         }
     }
-    match walked.stop {
-        Stop::Done => write!(out, "done")?,
-        Stop::More => write!(out, "more")?,
-        Stop::Refused(Refusal { number, second }) => write!(out, "refused {number} {second}")?,
-    }
-    let (at, looked) = (walked.at, walked.looked);
-    writeln!(out, " at {at} pieces {} looked {looked}", walked.pieces.len())
-}
-
-/// The access of a row that may be read.
-fn access(writable: bool) -> &'static str {
-    if writable {
-        "RW"
-    } else {
-        "RDONLY"
-    }
-}
-
-/// A text's bytes, each as two digits.
-fn hex(text: &str) -> String {
-    text.bytes().map(|byte| format!("{byte:02x}")).collect()
+    let (letter, number, second) = match walked.stop {
+        Stop::Done => ('d', 0, 0),
+        Stop::More => ('m', 0, 0),
+        Stop::Refused(Refusal { number, second }) => ('w', number, second),
+    };
+    Line(letter, [walked.at, walked.pieces.len() as u64, walked.looked, number, second], "").write(out)
 }

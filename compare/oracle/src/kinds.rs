@@ -1,28 +1,47 @@
 //! The kinds of answers, for counting how often each came up.
 
-/// The kind of an answer's line; none for those that every case has.
-pub fn kind(line: &str) -> Option<String> {
+/// The kinds of an answer's line; a case's first line has up to three.
+pub fn kinds(line: &str) -> Vec<String> {
     let words: Vec<&str> = line.split(' ').collect();
-    match words[..] {
-        ["case", _] => Some("cases".into()),
-        ["probe", answer] => Some(format!("probe {answer}")),
-        ["refused", number, _] => Some(format!("refused {number:0>2}")),
-        ["refused", number, _, "run", ..] => Some(format!("map refused {number}")),
-        ["refused", number, _, "at", ..] => Some(format!("walk refused {number}")),
-        ["raw", _, _, _, _, _, access, ..] => Some(format!("map raw {access}")),
-        ["zero", ..] => Some("map zero".into()),
-        ["end", ..] => Some("map end".into()),
-        ["done", ..] => Some("walk done".into()),
-        ["more", ..] => Some("walk more".into()),
-        ["extents", count] if count.len() == 3 => Some("100 to 128 extents".into()),
-        ["extents", "0"] => Some("no extents".into()),
-        ["extents", _] => Some("1 to 99 extents".into()),
-        [_, _, _, "FLAT", access, _, _] => Some(format!("row FLAT {access}")),
-        [_, start, end, "ZERO", access] => Some(format!("row ZERO {access}{}", empty(start, end))),
-        [_, start, end, "NOACCESS"] => Some(format!("row NOACCESS{}", empty(start, end))),
-        [_, _, "raw", _, _, _, access, _] => Some(format!("piece raw {access}")),
-        [_, _, "zero", _, _] => Some("piece zero".into()),
-        _ => None,
+    let [letter, _, b, c, d, ..] = words[..] else { return Vec::new() };
+    let kind = match letter {
+        "c" => return case_kinds(b, c),
+        "t" if b.len() == 3 => "100 to 128 extents".into(),
+        "t" if b == "0" => "no extents".into(),
+        "t" => "1 to 99 extents".into(),
+        "F" => format!("row FLAT {}", access(d)),
+        "Z" => format!("row ZERO {}{}", access(d), empty(b, c)),
+        "N" => format!("row NOACCESS{}", empty(b, c)),
+        "r" => format!("map raw {}", access(d)),
+        "z" => "map zero".into(),
+        "e" => "map end".into(),
+        "x" => format!("map refused {c}"),
+        "D" => format!("piece raw {}", access(d)),
+        "O" => "piece zero".into(),
+        "d" => "walk done".into(),
+        "m" => "walk more".into(),
+        "w" => format!("walk refused {d}"),
+        _ => return Vec::new(),
+    };
+    vec![kind]
+}
+
+/// The kinds of a case's first line: that it is one, what the probe says, and the refusal if there is one.
+fn case_kinds(probed: &str, refusal: &str) -> Vec<String> {
+    let probed = if probed == "1" { "probe yes" } else { "probe no" };
+    let mut kinds = vec!["cases".into(), probed.into()];
+    if refusal != "0" {
+        kinds.push(format!("refused {refusal:0>2}"));
+    }
+    kinds
+}
+
+/// The word for an access.
+fn access(writable: &str) -> &'static str {
+    if writable == "1" {
+        "RW"
+    } else {
+        "RDONLY"
     }
 }
 

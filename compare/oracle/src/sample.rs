@@ -5,7 +5,7 @@ use crate::cases::{Case, Query};
 use crate::descriptors::{self, BLANKS, NEAR_BLANKS};
 use crate::draw::Draw;
 use crate::exhaustive::{self, FAMILIES};
-use crate::kinds::kind;
+use crate::kinds;
 use crate::queries;
 use std::collections::BTreeMap;
 use std::io::{self, Write};
@@ -59,7 +59,7 @@ fn drawn() -> Vec<Case> {
     let mut kept = Vec::new();
     for _ in 0..100_000 {
         let case = queries::ask(descriptors::descriptor(&mut draw), &mut draw);
-        let kinds = kinds(&case);
+        let kinds = kinds_of(&case);
         let long = |kind: &str| kind == "100 to 128 extents" || kind == "refused 16";
         let wanted = |kind: &String| {
             let most = if long(kind) { EACH_LONG } else { EACH };
@@ -74,11 +74,11 @@ fn drawn() -> Vec<Case> {
 }
 
 /// The kinds of answers that a case has, each once.
-fn kinds(case: &Case) -> Vec<String> {
+fn kinds_of(case: &Case) -> Vec<String> {
     let mut text = Vec::new();
     answer::write(case, 0, &mut text).expect("writing to memory does not fail");
     let text = String::from_utf8(text).expect("answers are text");
-    let mut kinds: Vec<String> = text.lines().filter_map(kind).collect();
+    let mut kinds: Vec<String> = text.lines().flat_map(kinds::kinds).collect();
     kinds.sort();
     kinds.dedup();
     kinds

@@ -2,59 +2,58 @@
 
 use oracle::{answer, sample};
 
-/// The lines of a case's answer, without those that the document's report does not have.
+/// The lines of each marked case's answer.
 fn answers() -> Vec<Vec<String>> {
-    let unsaid = ["case ", "cid ", "parentcid ", "createtype ", "geometry "];
     let lines = |case| {
         let mut text = Vec::new();
         answer::write(case, 0, &mut text).expect("writing to memory does not fail");
         let text = String::from_utf8(text).expect("answers are text");
-        let said = |line: &&str| !unsaid.iter().any(|start| line.starts_with(start));
-        text.lines().filter(said).map(str::to_owned).collect()
+        text.lines().map(str::to_owned).collect()
     };
     sample::marked().iter().map(lines).collect()
 }
 
 #[test]
 fn marked_cases() {
-    let name = "7265656c20612e766d646b"; // reel a.vmdk
+    let cid = "102 102 102 102 102 102 102 101"; // fffffffe
+    let name = "114 101 101 108 32 97 46 118 109 100 107"; // reel a.vmdk
     let expected: [&[&str]; 9] = [
         &[
-            "probe yes",
-            "version 1",
-            "size 4096",
-            "extents 4",
-            &format!("0 0 2048 FLAT RW 1024 {name}"),
-            "1 2048 2048 ZERO RDONLY",
-            "2 2048 2560 NOACCESS",
-            "3 2560 4096 ZERO RDONLY",
+            "c 0 1 0 0 0",
+            &format!("v 1 0 0 0 0 {cid}"),
+            "p 0 0 0 0 0",
+            "t 4096 4 0 0 0",
+            &format!("F 0 0 2048 1 1024 {name}"),
+            "Z 1 2048 2048 0 0",
+            "N 2 2048 2560 0 0",
+            "Z 3 2560 4096 0 0",
             // K1 to K6
-            &format!("raw 1024 run 100 row 0 RW looked 3 {name}"),
-            &format!("raw 3071 run 1 row 0 RW looked 3 {name}"),
-            "refused 21 0 run 0 looked 1",
-            "zero run 0 row 3 looked 2",
-            "end run 0 looked 0",
-            "2560 1536 zero row 3",
-            "done at 4096 pieces 1 looked 2",
+            &format!("r 100 3 0 1 1024 {name}"),
+            &format!("r 1 3 0 1 3071 {name}"),
+            "x 0 1 21 0 0",
+            "z 0 2 3 0 0",
+            "e 0 0 0 0 0",
+            "O 2560 1536 3 0 0",
+            "d 4096 1 2 0 0",
         ],
-        &["probe no", "refused 1 0"],
+        &["c 0 0 1 0 0"],
         // K7, K8
-        &["probe no", "version 1", "size 0", "extents 0"],
-        &["probe yes", "refused 17 0"],
+        &["c 0 0 0 0 0", "v 1 0 0 0 0", "p 0 0 0 0 0", "t 0 0 0 0 0"],
+        &["c 0 1 17 0 0"],
         // K9, K10
-        &["probe yes", "refused 18 0"],
+        &["c 0 1 18 0 0"],
         &[
-            "probe yes", "version 1", "size 18446744073709551104", "extents 1",
-            "0 0 18446744073709551104 ZERO RW", "zero run 18446744073709551104 row 0 looked 1",
+            "c 0 1 0 0 0", "v 1 0 0 0 0", "p 0 0 0 0 0", "t 18446744073709551104 1 0 0 0",
+            "Z 0 0 18446744073709551104 1 0", "z 18446744073709551104 1 0 0 0",
         ],
-        &["probe yes", "refused 19 1"],
+        &["c 0 1 19 1 0"],
         // K11, K12
         &[
-            "probe yes", "version 1", "size 1024", "extents 1", "0 0 1024 FLAT RW 18446744073709551104 78",
-            "raw 18446744073709551104 run 1024 row 0 RW looked 1 78", "refused 22 0 run 0 looked 1",
-            "0 1024 raw 18446744073709551104 row 0 RW 78", "done at 1024 pieces 1 looked 1",
+            "c 0 1 0 0 0", "v 1 0 0 0 0", "p 0 0 0 0 0", "t 1024 1 0 0 0",
+            "F 0 0 1024 1 18446744073709551104 120", "r 1024 1 0 1 18446744073709551104 120", "x 0 1 22 0 0",
+            "D 0 1024 0 1 18446744073709551104 120", "d 1024 1 1 0 0",
         ],
-        &["probe yes", "refused 10 2"],
+        &["c 0 1 10 2 0"],
     ];
     for (found, expected) in answers().iter().zip(expected) {
         assert_eq!(found, expected);
@@ -64,6 +63,6 @@ fn marked_cases() {
 #[test]
 fn limit_of_128() {
     let answers = answers();
-    let last: Vec<&str> = answers[10..15].iter().map(|lines| lines[1].as_str()).collect();
-    assert_eq!(last, ["refused 16 130", "refused 15 130", "refused 16 130", "refused 6 130", "refused 20 1"]);
+    let last: Vec<&str> = answers[10..15].iter().map(|lines| lines[0].as_str()).collect();
+    assert_eq!(last, ["c 0 1 16 130 0", "c 0 1 15 130 0", "c 0 1 16 130 0", "c 0 1 6 130 0", "c 0 1 20 1 0"]);
 }

@@ -1,201 +1,155 @@
-// The lines of an answer.
-use crate::out::hex;
-use crate::out::number;
-use crate::out::text;
+// The lines of an answer: a letter, five numbers and a text (compare/FORMAT.md).
 use lines::record::Text;
 use lines::record::Verdict;
 use lines::record::VmdkAccessType;
+use lines::record::VmdkDesc;
 use tables::table::Mapping;
 use tables::table::Piece;
 use tables::table::PieceSource;
-use tables::table::Row;
 use tables::table::ShallowMapping;
 use tables::table::Source;
 use tables::table::Stop;
+use tables::table::Table;
 use tables::table::Walked;
+use walks::by_value::Listing;
 
-// The bytes of a text of the descriptor.
-pub fn bytes_of(d: &[u8], t: Text) -> &[u8] {
-    let a = t.place;
-    let n = t.length;
-    if a <= d.len() {
-        if n <= d.len() - a {
-            let e = a + n;
-            return &d[a..e];
-        }
-    }
-    &d[..0]
+// A line: its letter, its numbers, and a text of the descriptor.
+pub struct Line {
+    pub letter: u8,
+    pub numbers: [u64; 5],
+    pub text: Text,
 }
 
-// A text after its name.
-pub fn kept(to: &mut [u8], at: usize, name: &[u8], d: &[u8], t: Text) -> usize {
-    let p = text(to, at, name);
-    let q = hex(to, p, bytes_of(d, t));
-    text(to, q, b"\n")
-}
-
-// A number after its name.
-pub fn named(to: &mut [u8], at: usize, name: &[u8], n: u64) -> usize {
-    let p = text(to, at, name);
-    number(to, p, n)
-}
-
-// A number after its name, and the line's end.
-pub fn last(to: &mut [u8], at: usize, name: &[u8], n: u64) -> usize {
-    let p = named(to, at, name, n);
-    text(to, p, b"\n")
-}
-
-// A refusal's numbers.
-pub fn refused(to: &mut [u8], at: usize, n: u64, second: u64) -> usize {
-    let p = named(to, at, b"refused ", n);
-    last(to, p, b" ", second)
-}
-
-// Whether a verdict is a refusal, which is then written.
-pub fn verdict(to: &mut [u8], at: usize, v: Verdict) -> usize {
-    match v {
-        Verdict::Sound => at,
-        Verdict::Refused(r) => refused(to, at, r.number as u64, r.second as u64),
+// A line with a text.
+fn full(letter: u8, a: u64, b: u64, c: u64, d: u64, e: u64, text: Text) -> Line {
+    Line {
+        letter,
+        numbers: [a, b, c, d, e],
+        text,
     }
 }
 
-// Whether a verdict is sound.
-pub fn is_sound(v: Verdict) -> bool {
-    match v {
-        Verdict::Sound => true,
-        Verdict::Refused(_) => false,
+// A line with no text.
+fn bare(letter: u8, a: u64, b: u64, c: u64, d: u64, e: u64) -> Line {
+    Line {
+        letter,
+        numbers: [a, b, c, d, e],
+        text: Text {
+            place: 0,
+            length: 0,
+        },
     }
 }
 
-// An access, after a space.
-fn access(to: &mut [u8], at: usize, a: VmdkAccessType) -> usize {
+// An access as a number: 1 where the row may be written.
+fn writable(a: VmdkAccessType) -> u64 {
     match a {
-        VmdkAccessType::RW => text(to, at, b" RW"),
-        VmdkAccessType::RdOnly => text(to, at, b" RDONLY"),
+        VmdkAccessType::RW => 1,
+        VmdkAccessType::RdOnly => 0,
     }
 }
 
-// Writable or not, as an access after a space.
-fn writable(to: &mut [u8], at: usize, w: bool) -> usize {
-    if w {
-        return text(to, at, b" RW");
-    }
-    text(to, at, b" RDONLY")
-}
-
-// A row's source.
-fn source(to: &mut [u8], at: usize, d: &[u8], s: Source) -> usize {
-    match s {
-        Source::NoAccess => text(to, at, b" NOACCESS\n"),
-        Source::Zero(a) => {
-            let p = text(to, at, b" ZERO");
-            let q = access(to, p, a);
-            text(to, q, b"\n")
-        }
-        Source::Flat(a, start, name) => {
-            let p = text(to, at, b" FLAT");
-            let q = access(to, p, a);
-            let r = named(to, q, b" ", start.0);
-            kept(to, r, b" ", d, name)
-        }
+// The start of a case: its number, whether it may be a descriptor, and the refusal's two numbers.
+pub fn case(k: u64, probed: bool, v: Verdict) -> Line {
+    let p = probed as u64;
+    match v {
+        Verdict::Sound => bare(b'c', k, p, 0, 0, 0),
+        Verdict::Refused(r) => bare(b'c', k, p, r.number as u64, r.second as u64, 0),
     }
 }
 
-// A row with its number.
-pub fn row(to: &mut [u8], at: usize, d: &[u8], i: usize, r: Row) -> usize {
-    let p = number(to, at, i as u64);
-    let q = named(to, p, b" ", r.start.0);
-    let s = named(to, q, b" ", r.end.0);
-    let from = r.source;
-    source(to, s, d, from)
-}
-
-// The file name of a row.
-pub fn name_of(r: Row) -> Text {
+// Row i of a table, which has 128.
+fn row(t: Table, i: usize) -> Line {
+    let n = i as u64;
+    let r = t.rows[i % 128];
     let s = r.source;
     match s {
-        Source::NoAccess => Text {
-            place: 0,
-            length: 0,
-        },
-        Source::Zero(_) => Text {
-            place: 0,
-            length: 0,
-        },
-        Source::Flat(_, _, name) => name,
+        Source::NoAccess => bare(b'N', n, r.start.0, r.end.0, 0, 0),
+        Source::Zero(a) => bare(b'Z', n, r.start.0, r.end.0, writable(a), 0),
+        Source::Flat(a, from, text) => full(b'F', n, r.start.0, r.end.0, writable(a), from.0, text),
     }
 }
 
-// The row that a mapping names.
-pub fn row_in(m: Mapping) -> usize {
-    let s = m.mapping;
-    match s {
-        ShallowMapping::Eof => 0,
-        ShallowMapping::Zero(i) => i,
-        ShallowMapping::Raw(i, _, _) => i,
-        ShallowMapping::Refused(_) => 0,
+// Line i of an image: its values, which are three lines, then its rows.
+pub fn head(v: VmdkDesc, t: Table, i: usize) -> Line {
+    match i {
+        0 => {
+            let text = v.cid;
+            full(
+                b'v',
+                v.version as u64,
+                v.sectors,
+                v.heads,
+                v.cylinders,
+                0,
+                text,
+            )
+        }
+        1 => {
+            let text = v.parent_cid;
+            full(b'p', 0, 0, 0, 0, 0, text)
+        }
+        2 => {
+            let text = v.create_type;
+            full(b't', t.size.0, t.count as u64, 0, 0, 0, text)
+        }
+        _ => row(t, std::num::wrapping_sub_usize(i, 3)),
     }
 }
 
-// A mapping; the name is that of its row.
-pub fn mapping(to: &mut [u8], at: usize, d: &[u8], m: Mapping, name: Text) -> usize {
+// What lies at an offset; the text is the file name of its row.
+pub fn mapping(t: Table, m: Mapping) -> Line {
+    let looked = m.looked as u64;
     let s = m.mapping;
     match s {
-        ShallowMapping::Eof => last(to, at, b"end run 0 looked ", m.looked as u64),
-        ShallowMapping::Refused(n) => {
-            let p = named(to, at, b"refused ", n as u64);
-            last(to, p, b" 0 run 0 looked ", m.looked as u64)
-        }
-        ShallowMapping::Zero(i) => {
-            let p = named(to, at, b"zero run ", m.run);
-            let q = named(to, p, b" row ", i as u64);
-            last(to, q, b" looked ", m.looked as u64)
-        }
+        ShallowMapping::Eof => bare(b'e', m.run, looked, 0, 0, 0),
+        ShallowMapping::Refused(n) => bare(b'x', m.run, looked, n as u64, 0, 0),
+        ShallowMapping::Zero(i) => bare(b'z', m.run, looked, i as u64, 0, 0),
         ShallowMapping::Raw(i, offset, w) => {
-            let p = named(to, at, b"raw ", offset);
-            let q = named(to, p, b" run ", m.run);
-            let r = named(to, q, b" row ", i as u64);
-            let u = writable(to, r, w);
-            let v = named(to, u, b" looked ", m.looked as u64);
-            kept(to, v, b" ", d, name)
+            let l = row(t, i);
+            let text = l.text;
+            full(b'r', m.run, looked, i as u64, w as u64, offset, text)
         }
     }
 }
 
-// A piece of a walk; the name is that of its row.
-pub fn piece(to: &mut [u8], at: usize, d: &[u8], x: Piece, name: Text) -> usize {
-    let p = number(to, at, x.start);
-    let q = named(to, p, b" ", x.run);
+// A piece of a walk; the text is the file name of its row.
+fn piece(t: Table, x: Piece) -> Line {
+    let l = row(t, x.row);
+    let text = l.text;
     let s = x.source;
-    match s {
-        PieceSource::Zero => last(to, q, b" zero row ", x.row as u64),
-        PieceSource::Raw => {
-            let r = named(to, q, b" raw ", x.file_offset);
-            let u = named(to, r, b" row ", x.row as u64);
-            let v = writable(to, u, x.writable);
-            kept(to, v, b" ", d, name)
-        }
-    }
-}
-
-// Why a walk stopped.
-fn stop(to: &mut [u8], at: usize, s: Stop) -> usize {
-    match s {
-        Stop::Done => text(to, at, b"done"),
-        Stop::More => text(to, at, b"more"),
-        Stop::Refused(n) => {
-            let p = named(to, at, b"refused ", n as u64);
-            text(to, p, b" 0")
-        }
-    }
+    let letter = match s {
+        PieceSource::Zero => b'O',
+        PieceSource::Raw => b'D',
+    };
+    full(
+        letter,
+        x.start,
+        x.run,
+        x.row as u64,
+        x.writable as u64,
+        x.file_offset,
+        text,
+    )
 }
 
 // The end of a walk.
-pub fn walked(to: &mut [u8], at: usize, w: Walked) -> usize {
+fn end(w: Walked) -> Line {
     let s = w.stop;
-    let p = stop(to, at, s);
-    let q = named(to, p, b" at ", w.position);
-    let r = named(to, q, b" pieces ", w.count as u64);
-    last(to, r, b" looked ", w.looked as u64)
+    let count = w.count as u64;
+    let looked = w.looked as u64;
+    match s {
+        Stop::Done => bare(b'd', w.position, count, looked, 0, 0),
+        Stop::More => bare(b'm', w.position, count, looked, 0, 0),
+        Stop::Refused(n) => bare(b'w', w.position, count, looked, n as u64, 0),
+    }
+}
+
+// Line i of a walk: a piece, at most 128, or after the last one the end.
+pub fn walk(t: Table, l: Listing, i: usize) -> Line {
+    let w = l.walked;
+    if w.count <= i {
+        return end(w);
+    }
+    piece(t, l.pieces[i % 128])
 }

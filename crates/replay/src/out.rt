@@ -1,52 +1,57 @@
-// Output through a buffer that is written out when it is nearly full.
+// Writing a line of an answer.
+use crate::case::byte;
+use crate::line::Line;
 use libc::STDOUT_FILENO;
-use puts::put::put;
+use puts::put::put_byte;
 use puts::put::put_decimal;
 
-// Writes out what the buffer holds.
-pub fn flush(to: &mut [u8], at: usize) {
-    if at <= to.len() {
-        io::write_all(STDOUT_FILENO, &to[..at]);
+// The first n bytes, or as many as there are.
+pub fn front(b: &[u8], n: usize) -> &[u8] {
+    if b.len() < n {
+        return b;
     }
+    &b[0..n]
 }
 
-// Where the next few bytes go: at a place, or at the start once the buffer was written out.
-fn place(to: &mut [u8], at: usize, few: usize) -> usize {
-    if at < to.len() {
-        if few <= to.len() - at {
-            return at;
-        }
+// Where the next word of a line goes: at a place, or at the start once the nearly full buffer of 512 was written out.
+fn place(b: &[u8], at: usize) -> usize {
+    if at < 480 {
+        return at;
     }
-    flush(to, at);
+    io::write_all(STDOUT_FILENO, front(b, at));
     0
 }
 
-// A short text.
-pub fn text(to: &mut [u8], at: usize, s: &[u8]) -> usize {
-    let p = place(to, at, s.len());
-    put(to, p, s)
+// A space and a number.
+fn number(b: &mut [u8], at: usize, n: u64) -> usize {
+    let p = place(b, at);
+    let q = put_byte(b, p, 0x20);
+    put_decimal(b, q, n)
 }
 
-// A number in decimal digits.
-pub fn number(to: &mut [u8], at: usize, n: u64) -> usize {
-    let p = place(to, at, 20);
-    put_decimal(to, p, n)
+// Number i of a line: one of its five, or after them a byte of its text.
+fn word(c: &[u8], l: Line, i: usize) -> u64 {
+    if i < 5 {
+        return l.numbers[i];
+    }
+    byte(c, std::num::wrapping_add_usize(l.text.place, i - 5))
 }
 
-// A half of a byte as a digit.
-fn digit(x: u8) -> u8 {
-    let h = x % 16;
-    if h < 10 { 0x30 + h } else { 0x57 + h }
-}
-
-// Bytes, each as two digits.
-pub fn hex(to: &mut [u8], at: usize, s: &[u8]) -> usize {
-    let mut p = at;
+// A line in a buffer; what does not fit is written out.
+fn fill(b: &mut [u8], c: &[u8], l: Line) -> usize {
+    let n = std::num::wrapping_add_usize(l.text.length, 5);
+    let mut at = put_byte(b, 0, l.letter);
     let mut i = 0;
-    while i < s.len() {
-        let two = [digit(s[i] / 16), digit(s[i])];
-        p = text(to, p, &two);
+    while i < n {
+        at = number(b, at, word(c, l, i));
         i += 1;
     }
-    p
+    put_byte(b, at, 0x0a)
+}
+
+// Writes a line of an answer; its text is one of the case's descriptor.
+pub fn line(c: &[u8], l: Line) {
+    let mut b = [0; 512];
+    let n = fill(&mut b, c, l);
+    io::write_all(STDOUT_FILENO, front(&b, n));
 }
