@@ -125,7 +125,7 @@ low-run (suc n) t at h l =
 low-one : (l : List ℕ) → each isLow 16 l ≡ true → (i : ℕ) → i < 16 → getD l i 0 < 0x80
 low-one l e i h = ltb-true (getD l i 0) 0x80 (each-one isLow l 16 e i h)
 
--- Rules of `past_blocks` and `past_low`
+-- Rules of `past_blocks`
 module _ (t : List ℕ) (from at : ℕ) (i : Passed t from at) where
   pub pass-low : at < length t → getD t at 0 < 0x80 → Passed t from (at + 1)
   pass-low h l = join t from at (at + 1) i (pass t at (getD t at 0) 1 (char-low t at h l))

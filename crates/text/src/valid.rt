@@ -45,28 +45,6 @@ fn past_blocks(t: &[u8], mut at: usize) -> usize
     at
 }
 
-// Past bytes below 80.
-fn past_low(t: &[u8], from: usize) -> usize
-    requires { ⌜ from ≤ length (now t) ⌝ }
-    ensures { λ r. ⌜ Passed (now (t .entry)) from r ⌝ }
-{
-    if t.len() <= from {
-        return from;
-    }
-    if 0x80 <= t[from] {
-        return from;
-    }
-    let mut at = past_blocks(t, from);
-    while at < t.len() {
-        if t[at] < 0x80 {
-            at += 1;
-        } else {
-            return at;
-        }
-    }
-    at
-}
-
 // Whether a character of two bytes stands at a place.
 fn pair_at(t: &[u8], at: usize) -> bool
     requires { ⌜ at < length (now t) ⌝ }
@@ -125,7 +103,7 @@ pub fn valid(t: &[u8]) -> bool
     let mut at = 0;
     while at < t.len() {
         if t[at] < 0x80 {
-            at = past_low(t, at + 1);
+            at = past_blocks(t, at + 1);
             continue;
         }
         let width = width_at(t, at);
