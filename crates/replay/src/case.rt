@@ -1,6 +1,7 @@
 // One case: a descriptor and its queries.
 use crate::line;
 use crate::out;
+use lines::record::Record;
 use lines::record::Verdict;
 use lines::record::VmdkDesc;
 use tables::table::Table;
@@ -40,58 +41,10 @@ pub fn half(b: &[u8], at: usize) -> u64
     low + high * 65536
 }
 
-// The number of eight bytes from a place, the lowest first.
-fn word(b: &[u8], at: usize) -> u64 {
-    half(b, at) + half(b, std::num::wrapping_add_usize(at, 4)) * 4294967296
-}
-
-// A query: 0 for a map or 1 for a walk, the offset, the length asked, and the places in its list.
-struct Query {
-    walk: u64,
-    offset: u64,
-    length: u64,
-    places: usize,
-}
-
-// The query that starts at a place.
-fn query_at(c: &[u8], at: usize) -> Query {
-    Query {
-        walk: byte(c, at),
-        offset: word(c, std::num::wrapping_add_usize(at, 1)),
-        length: word(c, std::num::wrapping_add_usize(at, 9)),
-        places: next(c, at, 17) as usize,
-    }
-}
-
-// What reading and building give: the first verdict that refuses, the values and the table.
-struct Opened {
-    verdict: Verdict,
-    desc: VmdkDesc,
-    table: Table,
-}
-
-// The first of two verdicts that refuses.
-fn first_of(a: Verdict, b: Verdict) -> Verdict {
-    match a {
-        Verdict::Sound => b,
-        Verdict::Refused(_) => a,
-    }
-}
-
-// The descriptor read and its table built.
-fn open(d: &[u8]) -> Opened {
-    let r = descriptor::read::parse_descriptor_file(d);
-    let record = r.descriptor;
-    let b = tables::build::build(record);
-    let read = r.verdict;
-    let built = b.verdict;
-    let desc = record.desc;
-    let table = b.table;
-    Opened {
-        verdict: first_of(read, built),
-        desc,
-        table,
-    }
+// The number of eight bytes so many places after a place, the lowest first.
+fn word(b: &[u8], at: usize, more: usize) -> u64 {
+    let from = std::num::wrapping_add_usize(at, more);
+    half(b, from) + half(b, std::num::wrapping_add_usize(from, 4)) * 4294967296
 }
 
 // The values of a descriptor and its table, which are three lines, and the rows.
@@ -114,14 +67,14 @@ fn walk(c: &[u8], t: Table, l: Listing) {
     }
 }
 
-// The answer to a query.
-fn reply(c: &[u8], t: Table, q: Query) {
-    if q.walk == 0 {
-        let m = walks::by_value::mapped(t, q.offset, q.length);
+// The answer to a query: a map where the first number is 0, a walk otherwise.
+fn reply(c: &[u8], t: Table, what: u64, offset: u64, length: u64, places: u64) {
+    if what == 0 {
+        let m = walks::by_value::mapped(t, offset, length);
         out::line(c, line::mapping(t, m));
         return;
     }
-    let l = walks::by_value::listed(t, q.places, q.offset, q.length);
+    let l = walks::by_value::listed(t, places as usize, offset, length);
     walk(c, t, l);
 }
 
@@ -131,25 +84,46 @@ fn queries(c: &[u8], t: Table, at: usize) {
     let mut from = std::num::wrapping_add_usize(at, 1);
     let mut i = 0;
     while i < n {
-        reply(c, t, query_at(c, from));
+        reply(
+            c,
+            t,
+            byte(c, from),
+            word(c, from, 1),
+            word(c, from, 9),
+            next(c, from, 17),
+        );
         from = std::num::wrapping_add_usize(from, 18);
         i += 1;
+    }
+}
+
+// The answers of case k, whose first n bytes were read as a record.
+fn built(k: u64, c: &[u8], n: usize, probed: bool, x: Record) {
+    let b = tables::build::build(x);
+    let v = b.verdict;
+    out::line(c, line::case(k, probed, v));
+    match v {
+        Verdict::Refused(_) => {}
+        Verdict::Sound => {
+            let desc = x.desc;
+            let t = b.table;
+            head(c, desc, t);
+            queries(c, t, n);
+        }
     }
 }
 
 // The answers of case k, whose descriptor is its first n bytes.
 pub fn answer(k: u64, c: &[u8], n: usize) {
     let d = out::front(c, n);
-    let o = open(d);
-    let v = o.verdict;
-    out::line(c, line::case(k, probing::probe::probe(d), v));
+    let probed = probing::probe::probe(d);
+    let r = descriptor::read::parse_descriptor_file(d);
+    let v = r.verdict;
     match v {
-        Verdict::Refused(_) => {}
+        Verdict::Refused(_) => out::line(c, line::case(k, probed, v)),
         Verdict::Sound => {
-            let desc = o.desc;
-            let t = o.table;
-            head(c, desc, t);
-            queries(c, t, n);
+            let x = r.descriptor;
+            built(k, c, n, probed, x);
         }
     }
 }
