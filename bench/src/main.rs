@@ -125,11 +125,12 @@ fn once(side: &str, name: &str, count: u64) {
 }
 
 /// A round of each of some works.
-fn rounds(mut alone: f64, names: &[&str]) {
+fn rounds(alone: f64, names: &[&str]) {
     clock::pin();
+    let alone = alone.min(measure::alone());
     let works = works();
     let named = |name: &&str| works.iter().find(|work| work.name == *name).expect("a work's name");
-    let rounds: Vec<Round> = names.iter().map(|name| measure::round(named(name), &mut alone)).collect();
+    let rounds: Vec<Round> = names.iter().map(|name| measure::round(named(name), alone)).collect();
     measure::print(alone, &rounds);
 }
 

@@ -10,36 +10,43 @@ const SLICE: u64 = 1_000_000;
 const ROUND: [u64; 2] = [200_000_000, 1_000_000_000];
 
 /// A work has at least and at most so many pairs of rounds, each in a process of its own.
-const PAIRS: [usize; 2] = [3, 15];
+const PAIRS: [usize; 2] = [6, 18];
 
 /// A side's figure is stable where that of its even rounds and that of its odd ones differ by at most this part.
 const STABLE: f64 = 0.02;
 
-/// A slice counts where a turn of the clock's additions, before it and after it, takes at most so many times the least that was seen.
+/// A slice counts where a turn of the clock's additions, before it and after it, takes at most so many times what it takes on a core of our own.
 const ALONE: f64 = 1.05;
 
 /// The figures are for a processor whose cycle takes so many nanoseconds: 3 GHz.
 const CYCLE: f64 = 1.0 / 3.0;
 
-/// What the rounds of a side have shown: the least nanoseconds of one time, in even rounds and in odd ones.
-#[derive(Clone, Copy)]
-pub struct Figure([f64; 2]);
+/// What the rounds of a side have shown: the least nanoseconds of one time in each round, of even rounds and of odd ones.
+#[derive(Clone, Default)]
+pub struct Figure([Vec<f64>; 2]);
 
 impl Figure {
     /// The figure of a half of the rounds.
     pub fn each(&self, half: usize) -> f64 {
-        self.0[half]
+        median(self.0[half].clone())
     }
 
     /// The nanoseconds of one time.
     pub fn nanoseconds(&self) -> f64 {
-        self.0[0].min(self.0[1])
+        median(self.0.concat())
     }
 
     /// By what part the figures of the two halves differ.
     pub fn apart(&self) -> f64 {
-        apart(self.0)
+        apart([self.each(0), self.each(1)])
     }
+}
+
+/// The median of some figures.
+fn median(mut figures: Vec<f64>) -> f64 {
+    figures.sort_by(f64::total_cmp);
+    let [low, high] = [1, 0].map(|less| figures.get((figures.len() - less.min(figures.len())) / 2));
+    low.zip(high).map_or(f64::NAN, |(low, high)| (low + high) / 2.0)
 }
 
 /// By what part two figures differ.
@@ -107,9 +114,17 @@ fn below(frames: usize, act: &mut dyn FnMut()) {
 /// None, if no slice counted.
 pub type Round = Option<(f64, Vec<f64>)>;
 
-/// A round of a work: slices of its sides in turns, at one place of the stack after the other. `alone` is the least cycles of a turn
-/// of the clock's additions that were seen.
-pub fn round(work: &Work, alone: &mut f64) -> Round {
+/// The cycles of a turn of the clock's additions on a core of our own: of 300 turns all but 30 take as many or more. (The least of all
+/// would not do: where the processor's clock is just then changed, a turn seems to take less.)
+pub fn alone() -> f64 {
+    let mut turns: Vec<f64> = (0..300).map(|_| clock::pace().turn).collect();
+    turns.sort_by(f64::total_cmp);
+    turns[30]
+}
+
+/// A round of a work: slices of its sides in turns, at one place of the stack after the other. `alone` is what a turn of the clock's
+/// additions takes on a core of our own.
+pub fn round(work: &Work, alone: f64) -> Round {
     let mut sides: Vec<Side> =
         [Some(&work.rust), work.ours.as_ref()].into_iter().flatten().map(Side::new).collect();
     let (mut cycle, mut counted, mut frames) = (f64::INFINITY, 0, 0);
@@ -120,8 +135,7 @@ pub fn round(work: &Work, alone: &mut f64) -> Round {
         below(frames % 16, &mut || slices = sides.iter().map(Side::slice).collect());
         frames += 1;
         let after = clock::pace();
-        *alone = alone.min(before.turn).min(after.turn);
-        if before.turn.max(after.turn) <= *alone * ALONE {
+        if before.turn.max(after.turn) <= alone * ALONE {
             cycle = cycle.min(before.cycle).min(after.cycle);
             sides.iter_mut().zip(&slices).for_each(|(side, slice)| side.count(*slice));
             counted += slices.iter().flatten().sum::<u64>();
@@ -139,7 +153,7 @@ fn process(alone: &mut f64, names: &[&str]) -> Vec<Round> {
     assert!(output.status.success(), "{}", String::from_utf8_lossy(&output.stderr));
     let lines = String::from_utf8(output.stdout).expect("numbers");
     let mut lines = lines.lines();
-    *alone = lines.next().expect("the least cycles of a turn").parse().expect("a number");
+    *alone = lines.next().expect("the cycles of a turn").parse().expect("a number");
     lines
         .map(|line| {
             let mut numbers = line.split_whitespace().map(|n| n.parse().expect("a number"));
@@ -148,7 +162,7 @@ fn process(alone: &mut f64, names: &[&str]) -> Vec<Round> {
         .collect()
 }
 
-/// What `process` reads: the least cycles of a turn that were seen, and for each work a line, which is empty where no slice counted.
+/// What `process` reads: the cycles of a turn on a core of our own, and for each work a line, which is empty where no slice counted.
 pub fn print(alone: f64, rounds: &[Round]) {
     println!("{alone}");
     for round in rounds {
@@ -169,7 +183,7 @@ pub struct Measured {
 
 /// Time the sides of some works, round after round.
 pub fn measure(works: &[Work]) -> Measured {
-    let none = |work: &Work| vec![Figure([f64::INFINITY; 2]); 1 + usize::from(work.ours.is_some())];
+    let none = |work: &Work| vec![Figure::default(); 1 + usize::from(work.ours.is_some())];
     let mut all =
         Measured { figures: works.iter().map(none).collect(), cycle: [f64::INFINITY, 0.0], rounds: [0, 0] };
     let mut alone = f64::INFINITY;
@@ -190,7 +204,7 @@ pub fn measure(works: &[Work]) -> Measured {
                 };
                 all.cycle = [all.cycle[0].min(cycle), all.cycle[1].max(cycle)];
                 for (figure, now) in all.figures[*i].iter_mut().zip(figures) {
-                    figure.0[half] = figure.0[half].min(now);
+                    figure.0[half].push(now);
                 }
             }
         }
