@@ -110,7 +110,7 @@ fn main() {
     match words[..] {
         ["list"] => works().iter().for_each(|work| println!("{}", work.name)),
         ["once", side, name, count] => once(side, name, count.parse().expect("a number of times")),
-        ["rounds", alone, ref names @ ..] => rounds(alone.parse().expect("a number"), names),
+        ["rounds", alone, ref names @ ..] => rounds(f64::from_bits(alone.parse().expect("a number")), names),
         [] => table(""),
         [part] => table(part),
         _ => panic!("bench [WORDS] | list | rounds ALONE NAMES | once rust|ours WORK COUNT"),
@@ -131,7 +131,7 @@ fn rounds(alone: f64, names: &[&str]) {
     let works = works();
     let named = |name: &&str| works.iter().find(|work| work.name == *name).expect("a work's name");
     let rounds: Vec<Round> = names.iter().map(|name| measure::round(named(name), alone)).collect();
-    measure::print(alone, &rounds);
+    measure::print(alone, &rounds, 1 + usize::from(cfg!(ours)));
 }
 
 /// The table of times.

@@ -1,7 +1,7 @@
 //! Times the two sides of every work, in turns, in one process after the other, until the figures are stable.
 
 use crate::{clock, Run, Work};
-use std::process::Command;
+use std::{io::Write, process::Command};
 
 /// A slice of a side takes about so many nanoseconds, or one time of its work where that is longer.
 const SLICE: u64 = 1_000_000;
@@ -145,30 +145,29 @@ pub fn round(work: &Work, alone: f64) -> Round {
     (counted > 0).then(|| (cycle, sides.iter().map(|side| side.nanoseconds() * CYCLE / cycle).collect()))
 }
 
-/// A process that does a round of each of some works.
-fn process(alone: &mut f64, names: &[&str]) -> Vec<Round> {
+/// A process that does a round of each of some works. It answers numbers, 8 bytes each, so that no code for texts is shared with what is
+/// timed, which the compiler would then inline less.
+fn process(alone: &mut f64, names: &[&str], sides: usize) -> Vec<Round> {
     let program = std::env::current_exe().expect("the benchmark's own file");
-    let output =
-        Command::new(program).args(["rounds", &alone.to_string()]).args(names).output().expect("a process");
-    assert!(output.status.success(), "{}", String::from_utf8_lossy(&output.stderr));
-    let lines = String::from_utf8(output.stdout).expect("numbers");
-    let mut lines = lines.lines();
-    *alone = lines.next().expect("the cycles of a turn").parse().expect("a number");
-    lines
-        .map(|line| {
-            let mut numbers = line.split_whitespace().map(|n| n.parse().expect("a number"));
-            numbers.next().map(|cycle| (cycle, numbers.collect()))
-        })
-        .collect()
+    let bits = alone.to_bits().to_string();
+    let output = Command::new(program).args(["rounds", &bits]).args(names).output().expect("a process");
+    assert!(output.status.success(), "a round failed");
+    let number = |bytes: &[u8]| f64::from_bits(u64::from_le_bytes(bytes.try_into().expect("8 bytes")));
+    let numbers: Vec<f64> = output.stdout.chunks_exact(8).map(number).collect();
+    *alone = numbers[0];
+    let round = |numbers: &[f64]| (!numbers[0].is_nan()).then(|| (numbers[0], numbers[1..].to_vec()));
+    numbers[1..].chunks_exact(1 + sides).map(round).collect()
 }
 
-/// What `process` reads: the cycles of a turn on a core of our own, and for each work a line, which is empty where no slice counted.
-pub fn print(alone: f64, rounds: &[Round]) {
-    println!("{alone}");
-    for round in rounds {
-        let numbers = round.iter().flat_map(|(cycle, figures)| std::iter::once(cycle).chain(figures));
-        println!("{}", numbers.map(f64::to_string).collect::<Vec<_>>().join(" "));
-    }
+/// What `process` reads: the cycles of a turn on a core of our own, and for each work the cycle and the figures, which are no numbers
+/// where no slice counted.
+pub fn print(alone: f64, rounds: &[Round], sides: usize) {
+    let none = (f64::NAN, vec![f64::NAN; sides]);
+    let rounds = rounds.iter().map(|round| round.as_ref().unwrap_or(&none));
+    let numbers = rounds.flat_map(|(cycle, figures)| std::iter::once(cycle).chain(figures));
+    let bytes: Vec<u8> =
+        std::iter::once(&alone).chain(numbers).flat_map(|n| n.to_bits().to_le_bytes()).collect();
+    std::io::stdout().write_all(&bytes).expect("the table's process reads");
 }
 
 /// What was measured of some works.
@@ -183,7 +182,8 @@ pub struct Measured {
 
 /// Time the sides of some works, round after round.
 pub fn measure(works: &[Work]) -> Measured {
-    let none = |work: &Work| vec![Figure::default(); 1 + usize::from(work.ours.is_some())];
+    let sides = 1 + usize::from(cfg!(ours));
+    let none = |_: &Work| vec![Figure::default(); sides];
     let mut all =
         Measured { figures: works.iter().map(none).collect(), cycle: [f64::INFINITY, 0.0], rounds: [0, 0] };
     let mut alone = f64::INFINITY;
@@ -196,7 +196,7 @@ pub fn measure(works: &[Work]) -> Measured {
         }
         let names: Vec<&str> = open.iter().map(|i| works[*i].name.as_str()).collect();
         for half in [0, 1] {
-            for (i, round) in open.iter().zip(process(&mut alone, &names)) {
+            for (i, round) in open.iter().zip(process(&mut alone, &names, sides)) {
                 all.rounds[0] += 1;
                 let Some((cycle, figures)) = round else {
                     all.rounds[1] += 1;
