@@ -13,7 +13,7 @@ pub fn front(b: &[u8], n: usize) -> &[u8] {
     &b[0..n]
 }
 
-// Where the next word of a line goes: at a place, or at the start once the nearly full buffer of 512 was written out.
+// Where the next word of a line goes: at a place, or at the start once what stands before it, 480 bytes or more, was written out.
 fn place(b: &[u8], at: usize) -> usize {
     if at < 480 {
         return at;
@@ -51,7 +51,7 @@ fn fill(b: &mut [u8], c: &[u8], l: Line) -> usize {
 
 // Writes a line of an answer; its text is one of the case's descriptor.
 pub fn line(c: &[u8], l: Line) {
-    let mut b = [0; 512];
+    let mut b = [0; 1024];
     let n = fill(&mut b, c, l);
     io::write_all(STDOUT_FILENO, front(&b, n));
 }
