@@ -9,20 +9,20 @@ ghost use Rattle.maps.specs.Map.{nowhere, middle as middleOf, halve};
 ghost use Rattle.maps.specs.Halving.{headOf, upon, packed, unpackOf, window as windowOf, nextOf};
 
 // The numbers beside the rows.
-pub struct Heading {
+pub(crate) struct Heading {
     pub size: u64,
     pub count: usize,
 }
 
 // Where a search ended: at a row, or nowhere, and how many rows were looked at.
-pub struct Hit {
+pub(crate) struct Hit {
     pub found: bool,
     pub row: usize,
     pub looked: usize,
 }
 
 // What is left to search after a look at the row in the middle, and the answer where nothing is.
-pub struct Next {
+pub(crate) struct Next {
     pub more: bool,
     pub lo: usize,
     pub hi: usize,
@@ -39,7 +39,7 @@ pub(crate) fn row_at(t: &Table, i: usize) -> Row
 }
 
 // The numbers beside the rows. By hand.
-pub fn head(t: &Table) -> Heading
+pub(crate) fn head(t: &Table) -> Heading
     ensures { λ r. ⌜ r ≡ headOf (now (t .entry)) ⌝ }
 {
     Heading {

@@ -15,7 +15,7 @@ ghost use Rattle.maps.specs.Halving.{spanOf, Held, foundBy, foundOf, ans
 
 // What a search of a table found: the numbers beside the rows, where it ended, and of the row that holds the offset its source, and how much
 // of it lies before the offset and how much from there on. Where no row does, that is no access and zeros.
-pub struct Found {
+pub(crate) struct Found {
     pub heading: Heading,
     pub hit: Hit,
     pub source: Source,
@@ -63,7 +63,7 @@ fn as_found(heading: Heading, hit: Hit, row: Row, offset: u64) -> Found
 }
 
 // The search of a table for an offset of the disk. By hand.
-pub fn find(t: &Table, offset: u64) -> Found
+pub(crate) fn find(t: &Table, offset: u64) -> Found
     ensures { λ r. ⌜ r ≡ foundOf (now (t .entry)) offset ⌝ }
 {
     let h = halving::head(t);
@@ -146,7 +146,7 @@ fn by_source(source: Source, row: usize, within: u64, run: u64, looked: usize) -
 }
 
 // The mapping, once the search has ended.
-pub fn answer(f: Found, offset: u64, max_length: u64) -> Mapping
+pub(crate) fn answer(f: Found, offset: u64, max_length: u64) -> Mapping
     ensures { λ r. ⌜ r ≡ answerOf f offset «max_length» ⌝ }
 {
     let h = f.heading;

@@ -11,7 +11,7 @@ use tables::table::Source;
 use tables::table::Stop;
 use tables::table::Table;
 use tables::table::Walked;
-use walks::by_value::Listing;
+use maps::by_value::Listing;
 
 // A line: its letter, its numbers, and a text of the descriptor.
 pub struct Line {
