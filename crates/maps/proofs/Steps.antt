@@ -17,7 +17,7 @@ use Rattle.maps.specs.declared.halving.Heading.{Heading}
 use Rattle.maps.specs.declared.stepping.Stand.{Stand}
 use Rattle.maps.specs.declared.stepping.Mark.{Mark}
 use Rattle.maps.specs.Walk.{zeroPiece, rawPiece}
-use Rattle.maps.specs.Stepping.{noPiece, overOf, halted, going, standOf, beginOf, endMark, pieceMark, Meant, markOf}
+use Rattle.maps.specs.Stepping.{noPiece, overOf, halted, going, standOf, beginOf, afterOf, endMark, pieceMark, Meant, markOf}
 
 module _ (size pos left : ℕ) where
   pub over-nothing : left ≡ 0 → true ≡ overOf size pos left
@@ -46,11 +46,15 @@ module _ (h : Heading) (room pos left : ℕ) {r : Stand} where
   unfolding beginOf
   begin-many l q = rw (q, lt-leb _ _ l)
 
-  pub begin-first : h .count ≤ 128 → r ≡ standOf (h .size) room 0 pos left 0 → r ≡ beginOf h room pos left
+  pub begin-first : {z : ℕ} → h .count ≤ 128 → z ≡ h .size .0 → r ≡ standOf z room 0 pos left 0 → r ≡ beginOf h room pos left
   unfolding beginOf
-  begin-first l q = rw (q, le-leb _ _ l)
+  begin-first l k q = rw (q, le-leb _ _ l, k)
 
-pub ruleset begins = (begin-many, begin-first, needs)
+-- The rule of `after`
+pub after-piece : (h : Heading) (room : ℕ) (m : Mark) {z : ℕ} {r : Stand} → z ≡ h .size .0 → r ≡ standOf z room (m .at + 1) (m .pos) (m .left) (m .looked) → r ≡ afterOf h room m
+after-piece h room m k q = rw (q, k)
+
+pub ruleset begins = (begin-many, begin-first, after-piece, needs)
 
 pub end-mark : (stop : Stop) (s : Stand) (k : ℕ) {p : Piece} → p ≡ noPiece → record { more = false; at = s .at; piece = p; pos = s .pos; left = s .left; looked = k; stop = stop } ≡ endMark stop s k
 end-mark stop s k q = rw q

@@ -40,11 +40,11 @@ standOf size room at pos left k = pick (overOf size pos left) (halted Done at po
 
 -- before the first step
 unfoldable pub beginOf : Heading → ℕ → ℕ → ℕ → Stand
-beginOf h room pos left = pick (leb (h .count) most) (standOf (h .size) room 0 pos left 0) (halted (Stopped 23) 0 pos left 0)
+beginOf h room pos left = pick (leb (h .count) most) (standOf (h .size .0) room 0 pos left 0) (halted (Stopped 23) 0 pos left 0)
 
 -- before the step after a piece
 abbrev pub afterOf : Heading → ℕ → Mark → Stand
-afterOf h room m = standOf (h .size) room (m .at + 1) (m .pos) (m .left) (m .looked)
+afterOf h room m = standOf (h .size .0) room (m .at + 1) (m .pos) (m .left) (m .looked)
 
 -- no piece more
 abbrev pub endMark : Stop → Stand → ℕ → Mark

@@ -1,6 +1,7 @@
 // The row search, over a table that is lent. Each function with a `&Table` is thin, and proved by hand; what decides has plain parameters.
 use tables::table::Row;
 use tables::table::Table;
+use text::sector::Bytes;
 ghost use mathlib.Core.Path.{_≡_};
 ghost use Prim.Native.Nat.{_+_, _-_, _<_, _≤_};
 ghost use lib.ListN.{getD};
@@ -10,7 +11,7 @@ ghost use Rattle.maps.specs.Halving.{headOf, upon, packed, unpackOf, win
 
 // The numbers beside the rows.
 pub(crate) struct Heading {
-    pub size: u64,
+    pub size: Bytes,
     pub count: usize,
 }
 
@@ -43,7 +44,7 @@ pub(crate) fn head(t: &Table) -> Heading
     ensures { λ r. ⌜ r ≡ headOf (now (t .entry)) ⌝ }
 {
     Heading {
-        size: t.size.0,
+        size: t.size,
         count: t.count,
     }
 }
@@ -103,12 +104,12 @@ fn decide(row: Row, lo: usize, mid: usize, hi: usize, offset: u64, looked: usize
     requires { ⌜ (mid < 128) × (looked < 128) ⌝ }
     ensures { λ r. ⌜ r ≡ nextOf row lo mid hi offset looked ⌝ }
 {
-    let start = row.start.0;
-    let end = row.end.0;
-    if end <= offset {
+    let start = row.start;
+    let end = row.end;
+    if end.offset() <= offset {
         return window(true, mid + 1, hi, mid, looked);
     }
-    window(offset < start, lo, mid, mid, looked)
+    window(offset < start.offset(), lo, mid, mid, looked)
 }
 
 // The row that holds the offset, among those from lo up to hi; it calls itself on the half that is left. By hand.

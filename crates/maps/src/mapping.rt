@@ -27,8 +27,9 @@ pub(crate) struct Found {
 fn span(h: Heading, offset: u64) -> usize
     ensures { λ r. ⌜ r ≡ spanOf h offset ⌝ }
 {
+    let size = h.size;
     if h.count <= 128 {
-        if offset < h.size {
+        if offset < size.offset() {
             return h.count;
         }
     }
@@ -41,15 +42,15 @@ fn as_found(heading: Heading, hit: Hit, row: Row, offset: u64) -> Found
     ensures { λ r. ⌜ r ≡ foundBy heading hit row offset ⌝ }
 {
     if hit.found {
-        let start = row.start.0;
-        let end = row.end.0;
+        let start = row.start;
+        let end = row.end;
         let source = row.source;
         return Found {
             heading,
             hit,
             source,
-            within: offset - start,
-            left: end - offset,
+            within: offset - start.offset(),
+            left: end.offset() - offset,
         };
     }
     let source = Source::NoAccess;
@@ -130,7 +131,7 @@ fn by_source(source: Source, row: usize, within: u64, run: u64, looked: usize) -
             }
         }
         Source::Flat(access, base, name) => {
-            let start = base.0;
+            let start = base.offset();
             if 18446744073709551615 - within < start {
                 return refuse(22, looked);
             }
@@ -154,12 +155,14 @@ pub(crate) fn answer(f: Found, offset: u64, max_length: u64) -> Mapping
     if 128 < h.count {
         return refuse(23, 0);
     }
-    if h.size <= offset {
+    let size = h.size;
+    let size = size.offset();
+    if size <= offset {
         return end_of_file(0);
     }
     if hit.found {
         let source = f.source;
-        let left = least(h.size - offset, f.left);
+        let left = least(size - offset, f.left);
         let run = least(max_length, left);
         return by_source(source, hit.row, f.within, run, hit.looked);
     }

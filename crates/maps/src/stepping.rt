@@ -114,7 +114,8 @@ fn begin(h: Heading, room: usize, pos: u64, left: u64) -> Stand
     if 128 < h.count {
         return halt(Stop::Refused(23), 0, pos, left, 0);
     }
-    stand_at(h.size, room, 0, pos, left, 0)
+    let size = h.size;
+    stand_at(size.offset(), room, 0, pos, left, 0)
 }
 
 // Before the step after a piece.
@@ -123,7 +124,8 @@ fn after(h: Heading, room: usize, m: Mark) -> Stand
     ensures { λ r. ⌜ r ≡ afterOf h room m ⌝ }
 {
     let at = m.at;
-    stand_at(h.size, room, at + 1, m.pos, m.left, m.looked)
+    let size = h.size;
+    stand_at(size.offset(), room, at + 1, m.pos, m.left, m.looked)
 }
 
 // A zero piece: its file offset is 0, and it is not writable.

@@ -10,4 +10,11 @@ use Rattle.maps.proofs.stepping.halt.Reads as halt-reads
 use Rattle.maps.proofs.stepping.stand_at.Reads as stand-at-reads
 
 pub begin-spec : {M : Type 1} → statement M
-begin-spec = tie.close (tie.spec (λ c κs. search begins) (λ c. begin-many _ _ _ _ (omega arith) (c .halt .ensures)) (λ c κs. search begins) (λ c. search begins))
+begin-spec =
+    tie.close
+    (tie.spec
+    (λ c κs. search begins)
+    (λ c. search begins)
+    (λ c κs. search begins)
+    (λ c κs. search begins)
+    (λ c. search begins))

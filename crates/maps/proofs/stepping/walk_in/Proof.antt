@@ -53,6 +53,8 @@ use Rattle.maps.specs.declared.stepping.Stand.{Stand}
 use Rattle.maps.specs.declared.stepping.Mark.{Mark}
 use Rattle.tables.proofs.table.Piece as TP
 use Rattle.tables.proofs.table.Piece.Laws as TP′
+use Rattle.text.proofs.sector.Bytes as B
+use Rattle.text.proofs.sector.Bytes.Laws as B′
 use Rattle.tables.proofs.table.Table as TT
 use Rattle.tables.proofs.table.Table.Laws as TT′
 use Rattle.maps.proofs.halving.Heading as TD
@@ -217,7 +219,7 @@ module _ {M : Type 1} (𝓤 : URA M) (H : Heap 𝓤) (A : Atoms 𝓤) (W : Given
   room-fits j = omega arith
 
   size-fits : Is TD.the-row (headOf t) (vd ∷ []) → t .size .0 < 2 ^ 64
-  size-fits is = LL.owed TD.the-type TD′.the-laws (headOf t) _ is .0 .1
+  size-fits is = LL.owed B.the-type B′.the-laws (t .size) _ (LL.owed TD.the-type TD′.the-laws (headOf t) _ is .0) .0 .1
 
   module _ (𝓣 : Tables 𝓤 H) (fm : FmC 𝓤 H (W .laws) (𝓣 .C)) (known-put : Triple 𝓤 (𝓣 .C #put-piece) (Put 𝓤 H A W mem run)) (known-head : Triple 𝓤 (𝓣 .C #head) (Head 𝓤 H A mem run)) (known-room : Triple 𝓤 (𝓣 .C #room-in) (RoomIn 𝓤 H A mem run)) (known-begin : Triple 𝓤 (𝓣 .C #begin) (Begin 𝓤 H A mem run))
       (known-map : Triple 𝓤 (𝓣 .C #map-at) (MapAt 𝓤 H A mem run)) (known-after : Triple 𝓤 (𝓣 .C #after) (Later 𝓤 H A mem run)) (known-finish : Triple 𝓤 (𝓣 .C #finish) (Finish 𝓤 H A mem run)) where
