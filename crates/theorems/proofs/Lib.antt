@@ -8,8 +8,10 @@ pub mod Joins
 pub mod Least
 pub mod Limits
 pub mod LinePlaces
+pub mod LineRows
 pub mod Maps
 pub mod Marked
+pub mod NamedPlaces
 pub mod Orders
 pub mod Places
 pub mod RefusalNumbers
@@ -21,6 +23,7 @@ pub mod Sequences
 pub mod Shared
 pub mod Spellings
 pub mod Theorems
+pub mod TheoremsOfPlaces
 pub mod TheoremsOfReading
 pub mod TheoremsOfText
 pub mod Tiles

@@ -73,7 +73,7 @@ extents-cons (Set v) ss = refl
 extents-cons (Extent x) ss = refl
 extents-cons (Refused n) ss = refl
 
-extents-more : (s : Said) (ss : List Said) → length (extentsIn (s ∷ ss)) ≡ length (extentsIn (s ∷ [])) + length (extentsIn ss)
+pub extents-more : (s : Said) (ss : List Said) → length (extentsIn (s ∷ ss)) ≡ length (extentsIn (s ∷ [])) + length (extentsIn ss)
 extents-more s ss = rw (extents-cons s ss, length-append)
 
 refuses-cons : (s : Said) (ss : List Said) → refuses (s ∷ []) ≡ false → refuses (s ∷ ss) ≡ refuses ss
