@@ -1,5 +1,7 @@
 pub mod Built
 pub mod Continuing
+pub mod Counted
+pub mod EmptyTables
 pub mod Encodings
 pub mod Enough
 pub mod ExtentLines

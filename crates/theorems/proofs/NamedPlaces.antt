@@ -1,28 +1,25 @@
 -- The lines and the extents that they say take the same bytes off an offset, so both end in the same line, whose row has its name.
 -- So a place by an extent's number, with the number read as the row's name, is the place by the lines, and what is known of the one is known of the other.
-use Prim.Native.Nat.{ℕ, suc, _+_, _-_, _≤_, _<_}
+use Prim.Native.Nat.{ℕ, suc, _+_, _-_, _<_}
 use native.Mathlib.Omega.{arith}
 use mathlib.Core.List.{List, [], _∷_, _++_}
 use mathlib.Core.Bool.{Bool}
 use mathlib.Core.Logic.{_↔_}
-use mathlib.Core.Path.{_≡_, refl, sym, ap, _∙_, subst}
+use mathlib.Core.Path.{_≡_, refl, sym, ap, _∙_}
 use lib.ListN.{length}
 use lib.Dec.{leb, ltb}
 use borrow.Author.Tests.{leb-false, lt-leb}
-use Rattle.text.specs.Ranges.{pick}
 use Rattle.text.specs.Lines.{linesOf}
 use Rattle.text.specs.Text.{trimmed}
 use Rattle.text.specs.Sector.{largest}
 use Rattle.text.specs.declared.sector.Sectors.{Sectors}
 use Rattle.text.proofs.Flat.{by-test}
-use Rattle.lines.specs.Record.{most}
 use Rattle.lines.specs.Line.{lineOf}
 use Rattle.lines.specs.declared.line.Said.{Said}
 use Rattle.lines.specs.declared.line.Said.the-variants.{Nothing, Extent, Set, Refused as LineRefused}
 use Rattle.lines.specs.declared.record.Text.{Text}
 use Rattle.lines.specs.declared.record.Verdict.the-variants.{Sound}
 use Rattle.lines.specs.declared.record.VmdkAccessType.{VmdkAccessType}
-use Rattle.lines.specs.declared.record.VmdkParsedExtent.{VmdkParsedExtent}
 use Rattle.lines.specs.declared.record.VmdkParsedStorage.{VmdkParsedStorage}
 use Rattle.lines.specs.declared.record.VmdkParsedStorage.the-variants.{NoAccess, Zero, Flat}
 use Rattle.descriptor.specs.Read.{readOf}
@@ -37,9 +34,9 @@ use Rattle.maps.specs.Place.{Place, past as end, locked as lockedBy, zeros as z
 use Rattle.walks.specs.Walk.{Walk}
 use Rattle.theorems.specs.Statements.{placeAfter, sayings, sayingsOf, extentsIn}
 use Rattle.theorems.specs.Rows.{Builds}
-use Rattle.theorems.specs.Maps.{shown, MapsBy}
-use Rattle.theorems.specs.Tiling.{sourceAt, byteOf, Placed, Tiles}
-use Rattle.theorems.specs.NamedPlaces.{inQuotes, NamedPlace, past, locked, zeros, file, byteBy, byteFrom, placeBy, placeIn, nameAt, Seen, at, refused, seenBy, dueAt, TooFar, MapsNamed, pieceByte, PlacedBy, TilesNamed}
+use Rattle.theorems.specs.Maps.{shown, runAt, MapsBy}
+use Rattle.theorems.specs.Tiling.{sourceAt, Placed, Tiles}
+use Rattle.theorems.specs.NamedPlaces.{inQuotes, NamedPlace, past, locked, zeros, file, byteBy, byteFrom, placeBy, placeIn, nameAt, at, refused, seenBy, dueAt, TooFar, runBy, MapsNamed, pieceByte, PlacedBy, TilesNamed}
 use Rattle.theorems.proofs.Sayings.{extents-more}
 use Rattle.theorems.proofs.LineRows.{row-name}
 use Rattle.theorems.proofs.Tiles.{all-map}
@@ -92,6 +89,19 @@ unfolding placeBy sayings extentsIn placeFrom
 lines-named f p i [] n o = refl
 lines-named f p i (l ∷ ls) n o =
     line-named f p l ls i n o (lineOf p l) refl (λ j m o. lines-named f (p + length l + 1) j ls m o)
+
+-- what is known of the one is known of the other
+named-past : (f : ℕ → List ℕ) (q : Place) → named f q ≡ past ↔ q ≡ end
+named-past f end = (λ e. refl, λ e. refl)
+named-past f (lockedBy i) = (λ e. cc, λ e. cc)
+named-past f (zerosBy i) = (λ e. cc, λ e. cc)
+named-past f (fileBy i a w) = (λ e. cc, λ e. cc)
+
+named-run : (f : ℕ → List ℕ) (q : Place) (run : ℕ) → runBy (named f q) run ≡ runAt q run
+named-run f end run = refl
+named-run f (lockedBy i) run = refl
+named-run f (zerosBy i) run = refl
+named-run f (fileBy i a w) run = refl
 
 -- ---- where a refusal is due
 due-locked : (q : NamedPlace) → dueAt q ≡ refused 21 ↔ q ≡ locked
@@ -165,9 +175,12 @@ module _ (d : List ℕ) (t : Table) (a : readOf d .verdict ≡ Sound) (b : Build
 
     pub maps-named : MapsNamed d t o asked
     maps-named =
+        let ends = named-past (nameAt d t) (placeOf (extentsIn (sayingsOf d)) o) in
         record {
           shows = shows;
           no-access = refused-due 21 (due-locked (placeIn d o));
           too-far = refused-due 22 (due-far (placeIn d o));
-          rows = h;
+          end = (λ e. h .end .0 (ends .0 (sym (place-named o) ∙ e)), λ e. place-named o ∙ ends .1 (h .end .1 e));
+          run = rw (place-named o, named-run (nameAt d t) (placeOf (extentsIn (sayingsOf d)) o)) (h .run);
+          row = h .mapping;
         }

@@ -7,17 +7,24 @@ use lib.ListN.{length}
 use Rattle.lines.specs.Record.{most}
 use Rattle.lines.specs.Line.{lineOf}
 use Rattle.lines.specs.declared.line.Said.the-variants.{Extent}
-use Rattle.lines.specs.declared.record.Verdict.the-variants.{Sound}
+use Rattle.lines.specs.declared.record.Record.{Record}
+use Rattle.lines.specs.declared.record.Refusal.{Refusal}
+use Rattle.lines.specs.declared.record.Verdict.the-variants.{Sound, Refused}
 use Rattle.lines.specs.declared.record.VmdkParsedExtent.{VmdkParsedExtent}
 use Rattle.descriptor.specs.Read.{readOf}
 use Rattle.tables.specs.declared.table.Table.{Table}
+use Rattle.tables.specs.declared.table.Piece.{Piece}
+use Rattle.tables.specs.Build.{noTable, buildOf}
 use Rattle.maps.specs.Place.{Reachable}
 use Rattle.walks.specs.Walk.{walkOf}
 use Rattle.theorems.specs.Statements.{sayings, sayingsOf, extentsIn, LineAt, Quotes}
 use Rattle.theorems.specs.Rows.{Builds}
 use Rattle.theorems.specs.NamedPlaces.{inQuotes, FromLine, MapsNamed, TilesNamed}
+use Rattle.theorems.specs.Counted.{OnlyCounted}
 use Rattle.theorems.proofs.LineRows.{quotes-in, from-line, row-below}
 use Rattle.theorems.proofs.NamedPlaces.{maps-named, tiles-named}
+use Rattle.theorems.proofs.Counted.{only-counted}
+use Rattle.theorems.proofs.EmptyTables.{emptied-build, sound-build}
 use Rattle.theorems.proofs.Theorems.{mapping-places-bytes, demand-3-bytes}
 
 -- ---- rows and lines
@@ -38,7 +45,20 @@ line-has-row = row-below
 pub mapping-names : (d : List ℕ) (t : Table) → readOf d .verdict ≡ Sound → Builds (readOf d .descriptor) t → (o asked : ℕ) → MapsNamed d t o asked
 mapping-names d t a b o asked = maps-named d t a b o asked (mapping-places-bytes d t a b o asked)
 
--- Demand 3 with names: a walk over any range, given 128 list places, writes pieces that tile it, and for every byte of every piece, kind, name, file offset and writable are those that the descriptor's own lines give to that byte of the disk.
+-- Demand 3 with names: a walk over any range, given `most` list places, writes pieces that tile it, and for every byte of every piece, kind, name, file offset and writable are those that the descriptor's own lines give to that byte of the disk.
 pub demand-3-names : (d : List ℕ) (t : Table) → readOf d .verdict ≡ Sound → Builds (readOf d .descriptor) t → Reachable (extentsIn (sayingsOf d)) → (places start long : ℕ) → most ≤ places → TilesNamed d t start long (walkOf t places start long)
 demand-3-names d t a b h places start long m =
     tiles-named d t a b start long (walkOf t places start long) (demand-3-bytes d t a b h places start long m)
+
+-- ---- only the counted places
+-- A walk writes only the places that it counts: at most as many as the list has and at most `most`, the first of them hold its pieces, and every place from the count on holds what it held.
+pub walk-only-counted : (t : Table) (list : List Piece) (pos left : ℕ) → OnlyCounted t list pos left
+walk-only-counted = only-counted
+
+-- A refused build answers the empty table ..
+pub refused-no-table : (r : Record) (x : Refusal) → buildOf r .verdict ≡ Refused x → buildOf r .table ≡ noTable
+refused-no-table = emptied-build
+
+-- .. and one that is not refused, the table that the record builds.
+pub sound-builds : (r : Record) → buildOf r .verdict ≡ Sound → Builds r (buildOf r .table)
+sound-builds = sound-build

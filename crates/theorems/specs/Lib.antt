@@ -1,5 +1,6 @@
 pub mod Cases
 pub mod Continuing
+pub mod Counted
 pub mod Looks
 pub mod Maps
 pub mod NamedPlaces

@@ -1,5 +1,5 @@
 -- The rows of a table, and the bytes of the disk, with the name of their file as it stands in the descriptor's own lines.
-use Prim.Native.Nat.{ℕ, _+_, _-_, _*_, _<_}
+use Prim.Native.Nat.{ℕ, _+_, _-_, _*_, _<_, _≤_, min}
 use mathlib.Core.List.{List, [], _∷_}
 use mathlib.Core.Bool.{Bool}
 use mathlib.Core.Path.{_≡_}
@@ -28,11 +28,11 @@ use Rattle.tables.specs.declared.table.PieceSource.the-variants.{Zero as ZeroPi
 use Rattle.tables.specs.declared.table.ShallowMapping.{ShallowMapping}
 use Rattle.tables.specs.declared.table.ShallowMapping.the-variants.{Eof, Zero as ZeroAt, Raw, Refused}
 use Rattle.maps.specs.Map.{writable, mapOf}
-use Rattle.maps.specs.Place.{bytesIn}
+use Rattle.maps.specs.Place.{bytesIn, sizeOf, placeOf}
 use Rattle.walks.specs.Walk.{Walk}
 use Rattle.theorems.specs.Statements.{sayings, sayingsOf, extentsIn, LineAt, textIn, ExtentIn}
 use Rattle.theorems.specs.Rows.{sourceOf, rowAt}
-use Rattle.theorems.specs.Maps.{MapsBy}
+use Rattle.theorems.specs.Maps.{restOf, shown}
 use Rattle.theorems.specs.Tiling.{All, Tiles}
 
 -- ---- the name in a line
@@ -137,6 +137,13 @@ dueAt (file name f w) = pick (leb f largest) (at (file name f w)) (refused 22)
 abbrev pub TooFar : NamedPlace → Type 0
 TooFar q = (name : List ℕ) × (f : ℕ) × (w : Bool) × (q ≡ file name f w) × (largest < f)
 
+-- the run there, of so many bytes: 0 at the end and on a refusal
+abbrev pub runBy : NamedPlace → ℕ → ℕ
+runBy past run = 0
+runBy locked run = 0
+runBy zeros run = run
+runBy (file name f w) run = pick (leb f largest) run 0
+
 -- Mapping an offset of a table equals the place that the descriptor's own lines give to it.
 pub record MapsNamed (d : List ℕ) (t : Table) (o asked : ℕ) : Type 0 where
   -- kind, name, file offset and writable; 21 and 22 where they are due
@@ -144,8 +151,12 @@ pub record MapsNamed (d : List ℕ) (t : Table) (o asked : ℕ) : Type 0 where
   -- 21 exactly for no access, and 22 exactly for a file offset above 2^64-1
   pub no-access : mapOf t o asked .mapping ≡ Refused 21 ↔ placeIn d o ≡ locked
   pub too-far : mapOf t o asked .mapping ≡ Refused 22 ↔ TooFar (placeIn d o)
-  -- the row is the extent's, the end is at the sum of the extents' sizes, and the run goes to the extent's end or that asked
-  pub rows : MapsBy (extentsIn (sayingsOf d)) t o asked
+  -- the place is past the end exactly at or past the sum of the extents' sizes
+  pub end : placeIn d o ≡ past ↔ sizeOf (extentsIn (sayingsOf d)) ≤ o
+  -- the run is the least of the length asked and what is left of the extent
+  pub run : mapOf t o asked .run ≡ runBy (placeIn d o) (min asked (restOf (extentsIn (sayingsOf d)) o))
+  -- the row's number is the extent's
+  pub row : mapOf t o asked .mapping ≡ shown (placeOf (extentsIn (sayingsOf d)) o)
 
 -- where byte k of a piece lies
 abbrev pub pieceByte : List ℕ → Table → PieceSource → ℕ → ℕ → Bool → ℕ → NamedPlace
