@@ -13,6 +13,7 @@ pub mod LinePlaces
 pub mod LineRows
 pub mod Maps
 pub mod Marked
+pub mod NamedCases
 pub mod NamedPlaces
 pub mod Orders
 pub mod Places

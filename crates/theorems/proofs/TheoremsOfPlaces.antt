@@ -1,7 +1,7 @@
 -- A byte's place with the name of its file: which line of the descriptor a row is, and that mapping and the walk give each byte of the
 -- disk the place that the descriptor's own lines give it. specs/NamedPlaces.antt has the words.
 use Prim.Native.Nat.{ℕ, _<_, _≤_}
-use mathlib.Core.List.{List}
+use mathlib.Core.List.{List, map}
 use mathlib.Core.Path.{_≡_}
 use lib.ListN.{length}
 use Rattle.lines.specs.Record.{most}
@@ -19,10 +19,12 @@ use Rattle.maps.specs.Place.{Reachable}
 use Rattle.walks.specs.Walk.{walkOf}
 use Rattle.theorems.specs.Statements.{sayings, sayingsOf, extentsIn, LineAt, Quotes}
 use Rattle.theorems.specs.Rows.{Builds}
-use Rattle.theorems.specs.NamedPlaces.{inQuotes, FromLine, MapsNamed, TilesNamed}
+use Rattle.theorems.specs.NamedPlaces.{inQuotes, FromLine, placeIn, MapsNamed, TilesNamed}
+use Rattle.theorems.specs.NamedCases.{joined, Joint, joints}
 use Rattle.theorems.specs.Counted.{OnlyCounted}
 use Rattle.theorems.proofs.LineRows.{quotes-in, from-line, row-below}
 use Rattle.theorems.proofs.NamedPlaces.{maps-named, tiles-named}
+use Rattle.theorems.proofs.NamedCases.{joints-due}
 use Rattle.theorems.proofs.Counted.{only-counted}
 use Rattle.theorems.proofs.EmptyTables.{emptied-build, sound-build}
 use Rattle.theorems.proofs.Theorems.{mapping-places-bytes, demand-3-bytes}
@@ -49,6 +51,10 @@ mapping-names d t a b o asked = maps-named d t a b o asked (mapping-places-bytes
 pub demand-3-names : (d : List ℕ) (t : Table) → readOf d .verdict ≡ Sound → Builds (readOf d .descriptor) t → Reachable (extentsIn (sayingsOf d)) → (places start long : ℕ) → most ≤ places → TilesNamed d t start long (walkOf t places start long)
 demand-3-names d t a b h places start long m =
     tiles-named d t a b start long (walkOf t places start long) (demand-3-bytes d t a b h places start long m)
+
+-- The places at the joints of a disk of two files, zeros and no access: its descriptor reads and builds, and each byte lies where it is due.
+pub joint-places : (readOf joined .verdict ≡ Sound) × (buildOf (readOf joined .descriptor) .verdict ≡ Sound) × (map (λ (j : Joint). placeIn joined (j .byte)) joints ≡ map (λ (j : Joint). j .due) joints)
+joint-places = joints-due
 
 -- ---- only the counted places
 -- A walk writes only the places that it counts: at most as many as the list has and at most `most`, the first of them hold its pieces, and every place from the count on holds what it held.

@@ -3,6 +3,7 @@ pub mod Continuing
 pub mod Counted
 pub mod Looks
 pub mod Maps
+pub mod NamedCases
 pub mod NamedPlaces
 pub mod Rows
 pub mod Statements
