@@ -2,7 +2,7 @@
 -- A row has its extent's source, and so that line's.
 use Prim.Native.Nat.{ℕ, zero, suc, _+_, _<_}
 use native.Mathlib.Omega.{arith}
-use mathlib.Core.List.{List, [], _∷_, _++_}
+use mathlib.Core.List.{List, [], _∷_, _++_, append-assoc}
 use mathlib.Core.Path.{_≡_, refl, sym, ap, _∙_}
 use lib.ListN.{length, getD, length-append}
 use lib.Seq.{getD-append-seam}
@@ -30,7 +30,7 @@ use Rattle.maps.specs.Place.{bytesIn}
 use Rattle.theorems.specs.Statements.{placeAfter, sayings, sayingsOf, extentsIn, LineAt, Quotes, textIn}
 use Rattle.theorems.specs.Rows.{Builds, sourceOf, rowAt, InRows}
 use Rattle.theorems.specs.NamedPlaces.{upTo, behind, inQuotes, FromLine, nameAt}
-use Rattle.theorems.proofs.Sayings.{extents-more}
+use Rattle.theorems.proofs.Sayings.{extents-cons, extents-more}
 use Rattle.theorems.proofs.Verdicts.{accepted-extents}
 use Rattle.theorems.proofs.LinePlaces.{Lies, lies}
 use Rattle.theorems.proofs.ExtentLines.{extent-says, file-named}
@@ -57,7 +57,7 @@ quotes-in l front middle back q =
     rw (q .whole, from-behind 0x22 front (middle ++ 0x22 ∷ back) (q .first)) (up-to 0x22 middle back (q .second))
 
 -- a line that says a flat extent names its file
-pub line-names : (d : List ℕ) (p : ℕ) (l : List ℕ) → Lies d p l → (s : Sectors) (a : VmdkAccessType) (name : Text) (start : Sectors) → lineOf p l ≡ Extent (record { sectors = s; storage = Flat a name start }) → textIn d name ≡ trimmed (inQuotes l)
+line-names : (d : List ℕ) (p : ℕ) (l : List ℕ) → Lies d p l → (s : Sectors) (a : VmdkAccessType) (name : Text) (start : Sectors) → lineOf p l ≡ Extent (record { sectors = s; storage = Flat a name start }) → textIn d name ≡ trimmed (inQuotes l)
 line-names d p l i s a name start h =
     let f = file-named d p l s a name start i h in f .4 ∙ ap trimmed (sym (quotes-in l (f .0) (f .1) (f .2) (f .3)))
 
@@ -68,19 +68,13 @@ source-names d p l i s (Flat b named sector) h a start name e =
     let q : named ≡ name = cc in rw (← q) (line-names d p l i s b named sector h)
 
 -- ---- the extents that lines say
-said-more : (s : Said) (ss ts : List Said) (xs : List VmdkParsedExtent) → extentsIn ss ≡ extentsIn ts ++ xs → extentsIn (s ∷ ss) ≡ extentsIn (s ∷ ts) ++ xs
-unfolding extentsIn
-said-more Nothing ss ts xs h = h
-said-more (Set v) ss ts xs h = h
-said-more (Extent x) ss ts xs h = ap (_∷_ x) h
-said-more (Refused n) ss ts xs h = h
-
 -- those of some lines, and then those of the lines after them
 said-append : (p : ℕ) (before ls : List (List ℕ)) → extentsIn (sayings p (before ++ ls)) ≡ extentsIn (sayings p before) ++ extentsIn (sayings (placeAfter p before) ls)
 unfolding sayings placeAfter extentsIn
 said-append p [] ls = refl
 said-append p (l ∷ before) ls =
-    said-more (lineOf p l) (sayings (p + length l + 1) (before ++ ls)) (sayings (p + length l + 1) before) _ (said-append (p + length l + 1) before ls)
+    let n : ℕ = p + length l + 1 in
+    rw (extents-cons (lineOf p l) (sayings n (before ++ ls)), extents-cons (lineOf p l) (sayings n before), said-append n before ls, append-assoc)
 
 said-first : (p : ℕ) (l : List ℕ) (ls : List (List ℕ)) (x : VmdkParsedExtent) → lineOf p l ≡ Extent x → extentsIn (sayings p (l ∷ ls)) ≡ x ∷ extentsIn (sayings (p + length l + 1) ls)
 unfolding sayings extentsIn
@@ -184,7 +178,7 @@ module _ (d : List ℕ) (t : Table) (a : readOf d .verdict ≡ Sound) (b : Build
     row-extent : getD (counted (readOf d .descriptor)) row noExtent ≡ x
     row-extent = rw (accepted-extents d a, at .lines) (said-at 0 before l (at .after) x said-here)
 
-    pub row-source : rowAt t row .source ≡ sourceOf (x .storage)
+    row-source : rowAt t row .source ≡ sourceOf (x .storage)
     row-source = rows .source row row-below ∙ rw row-extent
 
     row-long : rowAt t row .end .0 ≡ rowAt t row .start .0 + bytesIn x

@@ -133,7 +133,7 @@ module _ (d : List ℕ) (t : Table) (a : readOf d .verdict ≡ Sound) (b : Build
       let e : 0 + length (extentsIn (sayings 0 before)) ≡ length (extentsIn (sayings 0 before)) = omega arith in
       rw e (row-name d t a b before l (placeAfter 0 before) (suc (length before)) (record { after = after; lines = q; place = refl; number = refl }) s acc name start h)
 
-  pub place-named : (o : ℕ) → placeIn d o ≡ named (nameAt d t) (placeOf (extentsIn (sayingsOf d)) o)
+  place-named : (o : ℕ) → placeIn d o ≡ named (nameAt d t) (placeOf (extentsIn (sayingsOf d)) o)
   unfolding placeIn placeOf
   place-named o = lines-named (nameAt d t) 0 0 (linesOf d) row-names o
 
