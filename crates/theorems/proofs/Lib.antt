@@ -1,5 +1,7 @@
 pub mod Built
 pub mod Continuing
+pub mod Counted
+pub mod EmptyTables
 pub mod Encodings
 pub mod Enough
 pub mod ExtentLines
@@ -8,8 +10,11 @@ pub mod Joins
 pub mod Least
 pub mod Limits
 pub mod LinePlaces
+pub mod LineRows
 pub mod Maps
 pub mod Marked
+pub mod NamedCases
+pub mod NamedPlaces
 pub mod Orders
 pub mod Places
 pub mod RefusalNumbers
@@ -21,6 +26,7 @@ pub mod Sequences
 pub mod Shared
 pub mod Spellings
 pub mod Theorems
+pub mod TheoremsOfPlaces
 pub mod TheoremsOfReading
 pub mod TheoremsOfText
 pub mod Tiles

@@ -1,7 +1,10 @@
 pub mod Cases
 pub mod Continuing
+pub mod Counted
 pub mod Looks
 pub mod Maps
+pub mod NamedCases
+pub mod NamedPlaces
 pub mod Rows
 pub mod Statements
 pub mod Tiling
