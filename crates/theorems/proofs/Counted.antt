@@ -9,8 +9,8 @@ use lib.Seq.{take-append-seam, drop-append-seam, getD-drop}
 use Rattle.lines.specs.Record.{most}
 use Rattle.tables.specs.declared.table.Table.{Table}
 use Rattle.tables.specs.declared.table.Piece.{Piece}
-use Rattle.walks.specs.Walk.{listed}
-use Rattle.walks.proofs.Marks.{walk-most, walk-room}
+use Rattle.maps.specs.Walk.{listed}
+use Rattle.maps.proofs.Marks.{walk-most, walk-room}
 use Rattle.theorems.specs.Counted.{walkWith, countOf, leftIn, OnlyCounted}
 
 module _ (t : Table) (list : List Piece) (pos left : ℕ) where

@@ -31,7 +31,7 @@ use Rattle.tables.specs.declared.table.ShallowMapping.{ShallowMapping}
 use Rattle.tables.specs.declared.table.ShallowMapping.the-variants.{Eof, Zero as ZeroAt, Raw, Refused}
 use Rattle.maps.specs.Map.{mapOf}
 use Rattle.maps.specs.Place.{Place, past as end, locked as lockedBy, zeros as zerosBy, file as fileBy, within, bytesIn, placeFrom, placeOf}
-use Rattle.walks.specs.Walk.{Walk}
+use Rattle.maps.specs.Walk.{Walk}
 use Rattle.theorems.specs.Statements.{placeAfter, sayings, sayingsOf, extentsIn}
 use Rattle.theorems.specs.Rows.{Builds}
 use Rattle.theorems.specs.Maps.{shown, runAt, MapsBy}

@@ -16,7 +16,7 @@ use Rattle.tables.specs.declared.table.Table.{Table}
 use Rattle.tables.specs.declared.table.Piece.{Piece}
 use Rattle.tables.specs.Build.{noTable, buildOf}
 use Rattle.maps.specs.Place.{Reachable}
-use Rattle.walks.specs.Walk.{walkOf}
+use Rattle.maps.specs.Walk.{walkOf}
 use Rattle.theorems.specs.Statements.{sayings, sayingsOf, extentsIn, LineAt, Quotes}
 use Rattle.theorems.specs.Rows.{Builds}
 use Rattle.theorems.specs.NamedPlaces.{inQuotes, FromLine, placeIn, MapsNamed, TilesNamed}

@@ -6,7 +6,7 @@ use lib.ListN.{length, take, drop, getD}
 use Rattle.lines.specs.Record.{most}
 use Rattle.tables.specs.declared.table.Table.{Table}
 use Rattle.tables.specs.declared.table.Piece.{Piece}
-use Rattle.walks.specs.Walk.{Walk, walkOf, walked, listed}
+use Rattle.maps.specs.Walk.{Walk, walkOf, walked, listed}
 
 -- a walk with a list, the count that it answers, and the list as it leaves it
 abbrev pub walkWith : Table → List Piece → ℕ → ℕ → Walk

@@ -29,7 +29,7 @@ use Rattle.tables.specs.declared.table.ShallowMapping.{ShallowMapping}
 use Rattle.tables.specs.declared.table.ShallowMapping.the-variants.{Eof, Zero as ZeroAt, Raw, Refused}
 use Rattle.maps.specs.Map.{writable, mapOf}
 use Rattle.maps.specs.Place.{bytesIn, sizeOf, placeOf}
-use Rattle.walks.specs.Walk.{Walk}
+use Rattle.maps.specs.Walk.{Walk}
 use Rattle.theorems.specs.Statements.{sayings, sayingsOf, extentsIn, LineAt, textIn, ExtentIn}
 use Rattle.theorems.specs.Rows.{sourceOf, rowAt}
 use Rattle.theorems.specs.Maps.{restOf, shown}
