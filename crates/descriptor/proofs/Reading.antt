@@ -20,14 +20,14 @@ use Rattle.text.specs.declared.sector.Bytes.{Bytes}
 use Rattle.text.specs.declared.sector.ByteCount.{ByteCount}
 use Rattle.text.specs.declared.sector.ByteCount.the-variants.{Count, TooLarge}
 use Rattle.text.proofs.Flat.{by-test, within-in, within-below, within-above}
-use Rattle.text.specs.Lines.{linesAt}
+use Rattle.text.specs.inside.Places.{linesAt}
 use Rattle.text.specs.Find.{lineEnd, begins}
 use Rattle.text.proofs.Lines.{line-within, line-step}
 use Rattle.lines.specs.Line.{lineOf, saidAt}
 use Rattle.lines.proofs.Lines.{said-is}
 use Rattle.lines.specs.Record.{most, mostBytes, noExtent, noDesc, descOf, filled, refusal}
 use Rattle.descriptor.specs.Read.{leastBytes, sparse, refusedRead, setOf, sizesFrom, answer, checked, byLine, readLines, readOf}
-use Rattle.descriptor.specs.Array.{heldIn, Tidy, sizesIn, readIn}
+use Rattle.descriptor.specs.inside.Array.{heldIn, Tidy, sizesIn, readIn}
 use Rattle.lines.specs.declared.line.Setting.{Setting}
 use Rattle.lines.specs.declared.line.Setting.the-variants.{Version, Cid, ParentCid, CreateType, Sectors as Is·Sectors, Heads, Cylinders}
 use Rattle.lines.specs.declared.line.Said.{Said}

@@ -1,2 +1,2 @@
 pub mod Read
-pub mod Array
+pub mod inside

@@ -5,7 +5,7 @@ ghost use lib.ListN.{length};
 ghost use mathlib.Core.List.{[]};
 ghost use Rattle.lines.specs.Record.{refusal, noDesc, noExtent, filled};
 ghost use Rattle.descriptor.specs.Read.{refusedRead, setOf, checked, readOf};
-ghost use Rattle.descriptor.specs.Array.{heldIn, Tidy, sizesIn, readIn};
+ghost use Rattle.descriptor.specs.inside.Array.{heldIn, Tidy, sizesIn, readIn};
 use lines::line::Said;
 use lines::line::Setting;
 use lines::line::parse_descriptor_line;

@@ -149,7 +149,7 @@ fn flat_line(access: VmdkAccessType, sectors: Sectors, t: &[u8], place: usize) -
 }
 
 // Parse an extent descriptor line whose first word is NOACCESS: the rest after its sector count is ignored.
-pub fn no_access_from_descriptor_line(t: &[u8], end: usize) -> Said
+pub(crate) fn no_access_from_descriptor_line(t: &[u8], end: usize) -> Said
     ensures { λ r. ⌜ r ≡ noAccessLine (now (t .entry)) end ⌝ }
 {
     let n = second_word(t, end);
@@ -163,7 +163,7 @@ pub fn no_access_from_descriptor_line(t: &[u8], end: usize) -> Said
 }
 
 // Parse an extent descriptor line whose first word is RW or RDONLY and ends at a place of it.
-pub fn try_from_descriptor_line(access: VmdkAccessType, t: &[u8], end: usize, place: usize) -> Said
+pub(crate) fn try_from_descriptor_line(access: VmdkAccessType, t: &[u8], end: usize, place: usize) -> Said
     requires { ⌜ place + length (now t) ≤ 2097152 ⌝ }
     ensures { λ r. ⌜ r ≡ extentLine access place (now (t .entry)) end ⌝ }
 {

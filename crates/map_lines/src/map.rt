@@ -4,6 +4,7 @@ ghost use Rattle.puts.specs.Put.{Put};
 ghost use Rattle.phrases.specs.Line.{line, nameOf};
 ghost use Rattle.map_lines.specs.Map.{rowWords, rawWords, zeroWords, refusedWords, mappingLine, mapLineOf};
 use lines::record::Verdict;
+use maps::by_value::mapped;
 use phrases::line::field;
 use phrases::line::last_field;
 use phrases::line::last_source_name;
@@ -16,7 +17,6 @@ use tables::table::Row;
 use tables::table::ShallowMapping;
 use tables::table::Source;
 use tables::table::Table;
-use maps::by_value::mapped;
 
 // Puts a raw mapping's row, from its number to the line's end.
 fn raw_row(

@@ -16,7 +16,7 @@ use Rattle.maps.specs.declared.halving.Hit.{Hit}
 use Rattle.maps.specs.declared.halving.Next.{Next}
 use Rattle.tables.specs.Build.{noRow}
 use Rattle.maps.specs.Map.{Search, found, nowhere, looked, holds, middle, decide, halve, inRow, searchOf, mapOf}
-use Rattle.maps.specs.Halving.{headOf, upon, packed, hitOf, unpackOf, window, nextOf, spanOf, endOf, endRow, Held, foundBy, foundOf, answerOf}
+use Rattle.maps.specs.inside.Halving.{headOf, upon, packed, hitOf, unpackOf, window, nextOf, spanOf, endOf, endRow, Held, foundBy, foundOf, answerOf}
 
 -- by cases on a test
 pub pick-elim : {X : Type 0} (P : X → Type 0) (b : Bool) (x y : X) → (b ≡ true → P x) → (b ≡ false → P y) → P (pick b x y)

@@ -7,7 +7,7 @@ use borrow.Author.Needs.{needs}
 use Rattle.tables.specs.declared.table.Table.{Table}
 use Rattle.tables.specs.declared.table.Piece.{Piece}
 use Rattle.maps.specs.Walk.{walkOf, walked, listed}
-use Rattle.maps.specs.Stepping.{noPiece}
+use Rattle.maps.specs.Walk.{noPiece}
 use Rattle.maps.specs.Listing.{noPieces, listingBy, listingOf}
 
 pub blank-pieces : {p : Piece} → p ≡ noPiece → replicate 128 p ≡ noPieces

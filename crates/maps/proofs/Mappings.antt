@@ -22,7 +22,7 @@ use Rattle.maps.specs.declared.halving.Next.{Next}
 use Rattle.maps.specs.declared.mapping.Found.{Found}
 use Rattle.maps.specs.Map.{found, nowhere, writable, sourced, ended, refused}
 use Rattle.maps.proofs.Halves.{holds-late, holds-early}
-use Rattle.maps.specs.Halving.{hitOf, window, unpackOf, nextOf, spanOf, Held, foundBy, answerOf}
+use Rattle.maps.specs.inside.Halving.{hitOf, window, unpackOf, nextOf, spanOf, Held, foundBy, answerOf}
 
 module _ (code : ℕ) where
   pub unpack-found : 0 < code % 4096 → hitOf (found (code % 4096 - 1) (code / 4096)) ≡ unpackOf code

@@ -22,8 +22,8 @@ use Rattle.maps.specs.declared.stepping.Stand.{Stand}
 use Rattle.maps.specs.declared.stepping.Mark.{Mark}
 use Rattle.maps.specs.Map.{mapOf}
 use Rattle.maps.specs.Walk.{Walk, ends, then, zeroPiece, rawPiece, step, unlessOver, walkFrom, walkOf, walked, listed}
-use Rattle.maps.specs.Halving.{headOf}
-use Rattle.maps.specs.Stepping.{overOf, halted, going, standOf, beginOf, afterOf, endMark, pieceMark, byMapping, markOf, mapAt, finishOf}
+use Rattle.maps.specs.inside.Halving.{headOf}
+use Rattle.maps.specs.inside.Stepping.{overOf, halted, going, standOf, beginOf, afterOf, endMark, pieceMark, byMapping, markOf, mapAt, finishOf}
 use Rattle.maps.proofs.Halves.{pick-elim, by-test}
 use Rattle.maps.proofs.Runs.{map-modest}
 

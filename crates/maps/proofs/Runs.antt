@@ -19,7 +19,7 @@ use Rattle.tables.specs.declared.table.Mapping.{Mapping}
 use Rattle.maps.specs.declared.stepping.Stand.{Stand}
 use Rattle.tables.specs.Build.{noRow}
 use Rattle.maps.specs.Map.{Search, found, nowhere, looked, holds, middle, decide, halve, sourced, ended, refused, inRow, searchOf, mapOf}
-use Rattle.maps.specs.Stepping.{Meant, Ready}
+use Rattle.maps.specs.inside.Stepping.{Meant, Ready}
 use Rattle.maps.proofs.Halves.{pick-elim, Finds, halve-finds}
 
 -- at most n rows were looked at

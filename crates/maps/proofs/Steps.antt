@@ -17,7 +17,8 @@ use Rattle.maps.specs.declared.halving.Heading.{Heading}
 use Rattle.maps.specs.declared.stepping.Stand.{Stand}
 use Rattle.maps.specs.declared.stepping.Mark.{Mark}
 use Rattle.maps.specs.Walk.{zeroPiece, rawPiece}
-use Rattle.maps.specs.Stepping.{noPiece, overOf, halted, going, standOf, beginOf, afterOf, endMark, pieceMark, Meant, markOf}
+use Rattle.maps.specs.inside.Stepping.{overOf, halted, going, standOf, beginOf, afterOf, endMark, pieceMark, Meant, markOf}
+use Rattle.maps.specs.Walk.{noPiece}
 
 module _ (size pos left : ℕ) where
   pub over-nothing : left ≡ 0 → true ≡ overOf size pos left

@@ -8,7 +8,7 @@ use Rattle.tables.specs.declared.table.Piece.{Piece}
 use Rattle.tables.specs.declared.table.Walked.{Walked}
 use Rattle.maps.specs.declared.by_value.Listing.{Listing}
 use Rattle.maps.specs.Walk.{walkOf, walked, listed}
-use Rattle.maps.specs.Stepping.{noPiece}
+use Rattle.maps.specs.Walk.{noPiece}
 
 -- 128 blank places
 unfoldable pub noPieces : List Piece

@@ -69,3 +69,7 @@ walked w = record { count = length (w .pieces); stop = w .stop; position = w .po
 -- what it leaves in the list: places beyond the count keep their contents
 unfoldable pub listed : Walk → List Piece → List Piece
 listed w list = w .pieces ++ drop (length (w .pieces)) list
+
+-- a piece of nothing
+abbrev pub noPiece : Piece
+noPiece = zeroPiece 0 0 0

@@ -1,6 +1,6 @@
 // Mapping and walking a table that is handed over by value: for callers that lend nothing.
-use crate::stepping;
 use crate::mapping;
+use crate::stepping;
 use tables::table::Mapping;
 use tables::table::Piece;
 use tables::table::Table;

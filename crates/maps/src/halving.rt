@@ -7,7 +7,7 @@ ghost use Prim.Native.Nat.{_+_, _-_, _<_, _≤_};
 ghost use lib.ListN.{getD};
 ghost use Rattle.tables.specs.Build.{noRow};
 ghost use Rattle.maps.specs.Map.{nowhere, middle as middleOf, halve};
-ghost use Rattle.maps.specs.Halving.{headOf, upon, packed, unpackOf, window as windowOf, nextOf};
+ghost use Rattle.maps.specs.inside.Halving.{headOf, upon, packed, unpackOf, window as windowOf, nextOf};
 
 // The numbers beside the rows.
 pub(crate) struct Heading {

@@ -11,7 +11,7 @@ use tables::table::Table;
 ghost use mathlib.Core.Path.{_≡_};
 ghost use Prim.Native.Nat.{min};
 ghost use Rattle.maps.specs.Map.{ended, refused, writable, sourced, mapOf};
-ghost use Rattle.maps.specs.Halving.{spanOf, Held, foundBy, foundOf, answerOf};
+ghost use Rattle.maps.specs.inside.Halving.{spanOf, Held, foundBy, foundOf, answerOf};
 
 // What a search of a table found: the numbers beside the rows, where it ended, and of the row that holds the offset its source, and how much
 // of it lies before the offset and how much from there on. Where no row does, that is no access and zeros.

@@ -14,7 +14,8 @@ ghost use Prim.Native.Nat.{_+_, _<_, _≤_, _^_, min};
 ghost use lib.ListN.{length as len, set};
 ghost use Rattle.lines.specs.Record.{most};
 ghost use Rattle.maps.specs.Walk.{zeroPiece, rawPiece, walkOf, walked, listed};
-ghost use Rattle.maps.specs.Stepping.{noPiece, overOf, halted, standOf, beginOf, afterOf, Ready, Meant, pieceMark, markOf, endMark, mapAt, finishOf};
+ghost use Rattle.maps.specs.inside.Stepping.{overOf, halted, standOf, beginOf, afterOf, Ready, Meant, pieceMark, markOf, endMark, mapAt, finishOf};
+ghost use Rattle.maps.specs.Walk.{noPiece};
 
 // Where a walk stands before a step: whether to go on, and if not, why.
 pub(crate) struct Stand {

@@ -38,7 +38,7 @@ pub fn last_word(out: &mut [u8], at: usize, w: &[u8]) -> usize
 }
 
 // Puts a line's last number.
-pub fn last_number(out: &mut [u8], at: usize, n: u64) -> usize
+pub(crate) fn last_number(out: &mut [u8], at: usize, n: u64) -> usize
     ensures { λ r. ⌜ Put (now (out .entry)) at (ended (decimalOf n)) r (now (out .exit)) ⌝ }
 {
     let next = put_decimal(out, at, n);

@@ -12,7 +12,7 @@ use borrow.Author.Tests.{le-leb, lt-ltb, le-ltb}
 use Rattle.text.specs.Ranges.{pick}
 use Rattle.text.specs.Text.{textFrom, textAt, sound, dropBlanks, trimText, trimOf, trimmed}
 use Rattle.text.specs.Find.{findFrom, findAt, lineEnd, same, begins}
-use Rattle.text.specs.Lines.{linesAt}
+use Rattle.text.specs.inside.Places.{linesAt}
 use Rattle.text.specs.Number.{numberOf}
 use Rattle.text.specs.declared.words.Trimmed.{Trimmed}
 use Rattle.text.specs.declared.words.Trimmed.the-variants.{Range, Wrong}
@@ -28,7 +28,8 @@ use Rattle.text.specs.Ascii.{ascii}
 use Rattle.lines.specs.Line.{versionLimit}
 use Rattle.lines.specs.Record.{mostBytes}
 use Rattle.descriptor.specs.Read.{leastBytes, sparse}
-use Rattle.probing.specs.Probe.{verdictOf, probeKey, probeLine, firstAnswer, probeLines, probeAt, probeOf}
+use Rattle.probing.specs.Probe.{verdictOf, probeKey, probeLine, firstAnswer, probeLines, probeOf}
+use Rattle.probing.specs.inside.Places.{probeAt}
 use Rattle.probing.specs.declared.probe.Probed.{Probed}
 use Rattle.probing.specs.declared.probe.Probed.the-variants.{Pass, Answer}
 

@@ -7,7 +7,7 @@ use lib.Dec.{ltb}
 use Rattle.text.specs.Ranges.{pick, within}
 use Rattle.text.specs.Text.{trimOf, trimmed}
 use Rattle.text.specs.Find.{findAt, same, begins}
-use Rattle.text.specs.Lines.{linesOf, linesAt}
+use Rattle.text.specs.Lines.{linesOf}
 use Rattle.text.specs.Number.{numberOf}
 use Rattle.text.specs.declared.words.Trimmed.{Trimmed}
 use Rattle.text.specs.declared.words.Trimmed.the-variants.{Range, Wrong}
@@ -49,10 +49,6 @@ firstAnswer (Answer b) later = b
 unfoldable pub probeLines : List (List ℕ) → Bool
 probeLines [] = false
 probeLines (l ∷ ls) = firstAnswer (probeLine l) (probeLines ls)
-
--- probing the lines from a place on
-unfoldable pub probeAt : List ℕ → ℕ → Bool
-probeAt t at = probeLines (linesAt t at)
 
 -- length outside 4 to 2,097,152, no; sparse bytes, yes; else by line
 unfoldable pub probeOf : List ℕ → Bool

@@ -4,8 +4,8 @@ use crate::out;
 use lines::record::Record;
 use lines::record::Verdict;
 use lines::record::VmdkDesc;
-use tables::table::Table;
 use maps::by_value::Listing;
+use tables::table::Table;
 ghost use Prim.Native.Nat.{_<_};
 
 // A byte as a number.
@@ -16,7 +16,7 @@ fn wide(x: u8) -> u64
 }
 
 // The byte at a place, or 0 past the end.
-pub fn byte(b: &[u8], at: usize) -> u64
+pub(crate) fn byte(b: &[u8], at: usize) -> u64
     ensures { λ r. ⌜ r < 256 ⌝ }
 {
     if at < b.len() {
@@ -33,7 +33,7 @@ fn next(b: &[u8], at: usize, more: usize) -> u64
 }
 
 // The number of four bytes from a place, the lowest first.
-pub fn half(b: &[u8], at: usize) -> u64
+pub(crate) fn half(b: &[u8], at: usize) -> u64
     ensures { λ r. ⌜ r < 4294967296 ⌝ }
 {
     let low = byte(b, at) + next(b, at, 1) * 256;
@@ -114,7 +114,7 @@ fn built(k: u64, c: &[u8], n: usize, probed: bool, x: Record) {
 }
 
 // The answers of case k, whose descriptor is its first n bytes.
-pub fn answer(k: u64, c: &[u8], n: usize) {
+pub(crate) fn answer(k: u64, c: &[u8], n: usize) {
     let d = out::front(c, n);
     let probed = probing::probe::probe(d);
     let r = descriptor::read::parse_descriptor_file(d);

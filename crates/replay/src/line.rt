@@ -3,6 +3,7 @@ use lines::record::Text;
 use lines::record::Verdict;
 use lines::record::VmdkAccessType;
 use lines::record::VmdkDesc;
+use maps::by_value::Listing;
 use tables::table::Mapping;
 use tables::table::Piece;
 use tables::table::PieceSource;
@@ -11,10 +12,9 @@ use tables::table::Source;
 use tables::table::Stop;
 use tables::table::Table;
 use tables::table::Walked;
-use maps::by_value::Listing;
 
 // A line: its letter, its numbers, and a text of the descriptor.
-pub struct Line {
+pub(crate) struct Line {
     pub letter: u8,
     pub numbers: [u64; 5],
     pub text: Text,
@@ -50,7 +50,7 @@ fn writable(a: VmdkAccessType) -> u64 {
 }
 
 // The start of a case: its number, whether it may be a descriptor, and the refusal's two numbers.
-pub fn case(k: u64, probed: bool, v: Verdict) -> Line {
+pub(crate) fn case(k: u64, probed: bool, v: Verdict) -> Line {
     let p = probed as u64;
     match v {
         Verdict::Sound => bare(b'c', k, p, 0, 0, 0),
@@ -75,7 +75,7 @@ fn row(t: Table, i: usize) -> Line {
 }
 
 // Line i of an image: its values, which are three lines, then its rows.
-pub fn head(v: VmdkDesc, t: Table, i: usize) -> Line {
+pub(crate) fn head(v: VmdkDesc, t: Table, i: usize) -> Line {
     match i {
         0 => {
             let text = v.cid;
@@ -103,7 +103,7 @@ pub fn head(v: VmdkDesc, t: Table, i: usize) -> Line {
 }
 
 // What lies at an offset; the text is the file name of its row.
-pub fn mapping(t: Table, m: Mapping) -> Line {
+pub(crate) fn mapping(t: Table, m: Mapping) -> Line {
     let looked = m.looked as u64;
     let s = m.mapping;
     match s {
@@ -151,7 +151,7 @@ fn end(w: Walked) -> Line {
 }
 
 // Line i of a walk: a piece, at most 128, or after the last one the end.
-pub fn walk(t: Table, l: Listing, i: usize) -> Line {
+pub(crate) fn walk(t: Table, l: Listing, i: usize) -> Line {
     let w = l.walked;
     if w.count <= i {
         return end(w);

@@ -6,7 +6,7 @@ use puts::put::put_byte;
 use puts::put::put_decimal;
 
 // The first n bytes, or as many as there are.
-pub fn front(b: &[u8], n: usize) -> &[u8] {
+pub(crate) fn front(b: &[u8], n: usize) -> &[u8] {
     if b.len() < n {
         return b;
     }
@@ -50,7 +50,7 @@ fn fill(b: &mut [u8], c: &[u8], l: Line) -> usize {
 }
 
 // Writes a line of an answer; its text is one of the case's descriptor.
-pub fn line(c: &[u8], l: Line) {
+pub(crate) fn line(c: &[u8], l: Line) {
     let mut b = [0; 1024];
     let n = fill(&mut b, c, l);
     io::write_all(STDOUT_FILENO, front(&b, n));

@@ -1,10 +1,7 @@
-// The answers. Each is written into a buffer that the caller lends, and cut where the buffer ends; what comes back is the length of
+// The program's answer. It is written into a buffer that the caller lends, and cut where the buffer ends; what comes back is the length of
 // the whole answer, within 2^64-1.
 ghost use mathlib.Core.Path.{_≡_};
 ghost use Rattle.puts.specs.Put.{pasted, after, Put};
-ghost use Rattle.disk_lines.specs.Report.{reportOf};
-ghost use Rattle.map_lines.specs.Map.{mapLineOf};
-ghost use Rattle.walk_lines.specs.Walk.{walkLinesOf};
 ghost use Rattle.report.specs.Command.{answerOf};
 use crate::command::Command;
 use disk_lines::whole::put_report;
@@ -12,30 +9,6 @@ use lines::record::Refusal;
 use map_lines::map::put_map;
 use phrases::line::refused_line;
 use walk_lines::walk::put_walk;
-
-// The report of a descriptor.
-pub fn report(d: &[u8], out: &mut [u8]) -> usize
-    ensures { λ r. ⌜ r ≡ after 0 (reportOf (now (d .entry))) ⌝ }
-    ensures { λ _. ⌜ now (out .exit) ≡ pasted (now (out .entry)) 0 (reportOf (now (d .entry))) ⌝ }
-{
-    put_report(d, out)
-}
-
-// What a descriptor's disk has at an offset, for at most a length.
-pub fn map_line(d: &[u8], offset: u64, length: u64, out: &mut [u8]) -> usize
-    ensures { λ r. ⌜ r ≡ after 0 (mapLineOf (now (d .entry)) offset length) ⌝ }
-    ensures { λ _. ⌜ now (out .exit) ≡ pasted (now (out .entry)) 0 (mapLineOf (now (d .entry)) offset length) ⌝ }
-{
-    put_map(d, offset, length, out)
-}
-
-// The walk of a descriptor's disk from an offset on, for at most a length, with room for so many pieces.
-pub fn walk_lines(d: &[u8], offset: u64, length: u64, places: usize, out: &mut [u8]) -> usize
-    ensures { λ r. ⌜ r ≡ after 0 (walkLinesOf (now (d .entry)) offset length places) ⌝ }
-    ensures { λ _. ⌜ now (out .exit) ≡ pasted (now (out .entry)) 0 (walkLinesOf (now (d .entry)) offset length places) ⌝ }
-{
-    put_walk(d, offset, length, places, out)
-}
 
 // Puts what the program answers to some input.
 fn put_answer(d: &[u8], asked: Command, out: &mut [u8]) -> usize

@@ -38,7 +38,7 @@ use Rattle.lines.proofs.record.Record as TR
 use Rattle.lines.proofs.record.Record.Laws as TR′
 use Rattle.lines.proofs.record.VmdkParsedExtent as TE
 use Rattle.tables.specs.Build.{noRow, Rows, rows, refused, inBytes, inSource, before, rowsFrom, built, buildOf}
-use Rattle.tables.specs.Opening.{rowOf, fileBy, openFile, openSource, sizeBy, openedOf}
+use Rattle.tables.specs.inside.Opening.{rowOf, fileBy, openFile, openSource, sizeBy, openedOf}
 
 pub row-is : (start end : ℕ) (source : Source) {a b : Bytes} → a ≡ bytesUpto start → b ≡ bytesUpto end → record { start = a; end = b; source = source } ≡ rowOf start end source
 row-is start end source p q = rw (p, q)

@@ -18,7 +18,7 @@ ghost use mathlib.Core.List.{[]};
 ghost use Prim.Native.Nat.{_≤_};
 ghost use Rattle.lines.specs.Record.{filled, counted};
 ghost use Rattle.tables.specs.Build.{noRow, refused, rowsFrom, built, buildOf};
-ghost use Rattle.tables.specs.Opening.{rowOf, openFile, openSource, openedOf};
+ghost use Rattle.tables.specs.inside.Opening.{rowOf, openFile, openSource, openedOf};
 
 // What opening an extent gives: its row, or a refusal's number.
 enum Opened {
@@ -150,11 +150,7 @@ fn open_extents(record: Record) -> Built
     }
     let verdict = Verdict::Sound;
     let size = Bytes::upto(size);
-    let table = Table {
-        size,
-        count,
-        rows,
-    };
+    let table = Table { size, count, rows };
     Built { verdict, table }
 }
 

@@ -9,7 +9,7 @@ use borrow.Author.Needs.{needs}
 use borrow.Author.Tests.{ltb-true, ltb-false}
 use lib.ListN.{getD}
 use lib.Dec.{ltb}
-use Rattle.text.specs.Blocks.{each}
+use Rattle.text.specs.inside.Blocks.{each}
 use Rattle.text.proofs.Flat.{by-test, both}
 
 -- Rules of the loops of `low` and `without_byte`

@@ -13,7 +13,8 @@ use mir.Syntax.{w32}
 use mir.Val.{Fits}
 use borrow.Author.Needs.{needs}
 use Rattle.text.specs.Ranges.{pick, within}
-use Rattle.text.specs.Utf8.{leads, leadOf, cap, tailOf, tailAt, charOf, charAt, charBy}
+use Rattle.text.specs.Utf8.{leads, leadOf, tailOf, charOf, charAt, charBy}
+use Rattle.text.specs.inside.Places.{cap, tailAt}
 use Rattle.text.specs.declared.utf8.Lead.{Lead}
 use Rattle.text.specs.declared.utf8.Lead.the-variants.{Row as Lead·Row, Never}
 use Rattle.text.specs.declared.utf8.Char.{Char}

@@ -12,7 +12,7 @@ use borrow.Author.Needs.{needs}
 use borrow.Author.Tests.{leb-true, ltb-true, ltb-false, eqb-true, eqb-false}
 use Rattle.text.specs.Ranges.{pick, within}
 use Rattle.text.specs.Blank.{blank}
-use Rattle.text.specs.Blocks.{backTo, blankIn}
+use Rattle.text.specs.inside.Blocks.{backTo, blankIn}
 use Rattle.text.specs.Utf8.{leads, leadOf, tailOf, charBy, charOf, charAt}
 use Rattle.text.specs.Text.{textAt, sound, lastEnd}
 use Rattle.text.specs.declared.utf8.Lead.{Lead}

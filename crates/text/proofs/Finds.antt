@@ -12,7 +12,7 @@ use lib.ListN.{length, getD, take, drop, drop-of-length-le, length-drop, length-
 use lib.Seq.{drop-cons, getD-append-seam, take-append-seam}
 use lib.Dec.{leb, eqb}
 use borrow.Author.Tests.{eq-eqb, ne-eqb, eqb-true, le-leb, lt-leb}
-use Rattle.text.specs.Blocks.{each, isOther}
+use Rattle.text.specs.inside.Blocks.{each, isOther}
 use Rattle.text.specs.Find.{findFrom, findAt, lineEnd, same, begins, stripOf, partOf}
 use Rattle.text.specs.declared.find.Place.{Place}
 use Rattle.text.specs.declared.find.Part.{Part}

@@ -12,8 +12,9 @@ use mir.Syntax.{w64}
 use mir.Val.{Fits}
 use borrow.Author.Needs.{needs}
 use borrow.Author.Tests.{ltb-true, leb-true, leb-false, eqb-true, eqb-false}
-use Rattle.text.specs.Blocks.{each, isLow, Passed, widthIn}
-use Rattle.text.specs.Utf8.{leadOf, tailAt, charOf, charAt}
+use Rattle.text.specs.inside.Blocks.{each, isLow, Passed, widthIn}
+use Rattle.text.specs.Utf8.{leadOf, charOf, charAt}
+use Rattle.text.specs.inside.Places.{tailAt}
 use Rattle.text.specs.Text.{sound, textAt}
 use Rattle.text.specs.declared.utf8.Lead.the-variants.{Row as Lead·Row}
 use Rattle.text.specs.declared.utf8.Char.{Char}

@@ -7,4 +7,4 @@ pub mod Lines
 pub mod Number
 pub mod Sector
 pub mod Text
-pub mod Blocks
+pub mod inside

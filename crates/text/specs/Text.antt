@@ -49,12 +49,6 @@ sound done = true
 sound bad = false
 sound (char a e c r) = sound r
 
--- the code points of the characters
-unfoldable pub codes : Text → List ℕ
-codes done = []
-codes bad = []
-codes (char a e c r) = c ∷ codes r
-
 -- without the blanks at the front
 unfoldable pub dropBlanks : Text → Text
 dropBlanks done = done

@@ -1,5 +1,5 @@
 -- UTF-8 by Table 3-7 of the Unicode Standard.
-use Prim.Native.Nat.{ℕ, zero, suc, _+_, _*_, _/_, _%_}
+use Prim.Native.Nat.{ℕ, zero, suc, _+_, _*_, _%_}
 use mathlib.Core.List.{List, [], _∷_}
 use lib.ListN.{drop}
 use Rattle.text.specs.Ranges.{Row, row, look, pick, within}
@@ -25,20 +25,11 @@ leads =
 unfoldable pub leadOf : ℕ → Lead
 leadOf b = look Never leads b
 
--- what the bits so far are below where n bytes are to follow: 2 ^ 21, six bits less for each
-unfoldable pub cap : ℕ → ℕ
-cap zero = 2097152
-cap (suc n) = cap n / 64
-
 -- n bytes follow, the first in lo to hi and the others in 80 to BF; each has six bits more of the code point c, of a character w bytes wide
 unfoldable pub tailOf : ℕ → ℕ → ℕ → ℕ → ℕ → List ℕ → Char
 tailOf zero lo hi c w l = Scalar c w
 tailOf (suc n) lo hi c w [] = Bad
 tailOf (suc n) lo hi c w (x ∷ r) = pick (within lo hi x) (tailOf n 0x80 0xBF (c * 64 + x % 64) w r) Bad
-
--- the same of the bytes of t from the place at
-unfoldable pub tailAt : List ℕ → ℕ → ℕ → ℕ → ℕ → ℕ → ℕ → Char
-tailAt t at n lo hi c w = tailOf n lo hi c w (drop at t)
 
 -- the character of a first byte b and the bytes r after it
 abbrev pub charBy : Lead → ℕ → List ℕ → Char

@@ -2,7 +2,7 @@
 ghost use mathlib.Core.Path.{_≡_};
 ghost use Prim.Native.Nat.{_≤_};
 ghost use lib.ListN.{length};
-ghost use Rattle.text.specs.Blocks.{each, isOther};
+ghost use Rattle.text.specs.inside.Blocks.{each, isOther};
 ghost use Rattle.text.specs.Find.{findAt, lineEnd, same, begins, stripOf};
 
 // Where a byte is found, or that it stands nowhere.

@@ -1,7 +1,8 @@
 // The step from one character of a text to the next: UTF-8 by Table 3-7 of the Unicode Standard.
 ghost use mathlib.Core.Path.{_≡_};
 ghost use Prim.Native.Nat.{ℕ, _+_, _<_, _≤_};
-ghost use Rattle.text.specs.Utf8.{leadOf, cap, tailAt, charAt};
+ghost use Rattle.text.specs.Utf8.{leadOf, charAt};
+ghost use Rattle.text.specs.inside.Places.{cap, tailAt};
 
 // What a first byte says: how many bytes follow, the range of the first of them, and below what its own bits are.
 pub enum Lead {
@@ -17,7 +18,7 @@ pub enum Char {
 }
 
 // The row of Table 3-7 that a first byte falls in.
-pub fn first_byte(b: u8) -> Lead
+pub(crate) fn first_byte(b: u8) -> Lead
     ensures { λ r. ⌜ r ≡ leadOf b ⌝ }
 {
     match b {

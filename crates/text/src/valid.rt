@@ -3,7 +3,7 @@ ghost use mathlib.Core.Path.{_≡_};
 ghost use Prim.Native.Nat.{_≤_, _<_};
 ghost use mathlib.Core.Bool.{true};
 ghost use lib.ListN.{length};
-ghost use Rattle.text.specs.Blocks.{each, isLow, Passed, widthIn};
+ghost use Rattle.text.specs.inside.Blocks.{each, isLow, Passed, widthIn};
 ghost use Rattle.text.specs.Utf8.{charAt};
 ghost use Rattle.text.specs.Text.{sound, textAt};
 use crate::utf8::Char;
@@ -97,7 +97,7 @@ fn width_at(t: &[u8], at: usize) -> usize
 }
 
 // Whether a text is UTF-8.
-pub fn valid(t: &[u8]) -> bool
+pub(crate) fn valid(t: &[u8]) -> bool
     ensures { λ r. ⌜ r ≡ sound (textAt (now (t .entry)) 0) ⌝ }
 {
     let mut at = 0;

@@ -3,7 +3,7 @@ ghost use mathlib.Core.Path.{_≡_};
 ghost use Prim.Native.Nat.{_-_, _≤_, _<_};
 ghost use mathlib.Core.Bool.{true};
 ghost use lib.ListN.{length};
-ghost use Rattle.text.specs.Blocks.{backTo, blankIn};
+ghost use Rattle.text.specs.inside.Blocks.{backTo, blankIn};
 ghost use Rattle.text.specs.Utf8.{charAt};
 ghost use Rattle.text.specs.Text.{alike, textAt, sound, lastEnd, trimOf, trimmed, runOf, wordOf};
 use crate::blank::is_blank;

@@ -11,7 +11,7 @@ use text::words::Trimmed;
 use text::words::Word;
 
 // An answer: which of its cases, and the values of that case.
-pub struct Answer {
+pub(crate) struct Answer {
     pub tag: u64,
     pub a: u64,
     pub b: u64,
@@ -162,7 +162,7 @@ fn key(t: &[u8]) -> Answer {
 }
 
 // The answer of the function that a kind names.
-pub fn ask(kind: &[u8], t: &[u8]) -> Answer {
+pub(crate) fn ask(kind: &[u8], t: &[u8]) -> Answer {
     if kind.len() == 0 {
         return bare(10);
     }

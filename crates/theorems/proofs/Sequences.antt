@@ -8,7 +8,8 @@ use mathlib.Core.Path.{_≡_, refl, sym, ap, subst, _∙_}
 use lib.ListN.{length, drop}
 use lib.Seq.{drop-nil, drop-append-seam}
 use Rattle.text.specs.Utf8.{charOf}
-use Rattle.text.specs.Text.{Text, done, char, put, textFrom, textAt, sound, codes}
+use Rattle.text.specs.Text.{Text, done, char, put, textFrom, textAt, sound}
+use Rattle.text.specs.inside.Codes.{codes}
 use Rattle.theorems.specs.Unicode.{scalar, encode, scalars, encodeAll}
 use Rattle.text.specs.declared.utf8.Char.{Char}
 use Rattle.text.specs.declared.utf8.Char.the-variants.{Scalar, Bad, End}

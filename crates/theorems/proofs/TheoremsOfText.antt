@@ -10,7 +10,8 @@ use lib.ListN.{length, take, drop, length-drop, length-append}
 use borrow.Author.Tests.{le-leb}
 use Rattle.text.specs.Utf8.{charAt}
 use Rattle.theorems.specs.Unicode.{encode, Stands, scalars, encodeAll}
-use Rattle.text.specs.Text.{textAt, sound, codes, trimOf, trimmed, wordOf, trimCodes, wordCodes}
+use Rattle.text.specs.Text.{textAt, sound, trimOf, trimmed, wordOf, trimCodes, wordCodes}
+use Rattle.text.specs.inside.Codes.{codes}
 use Rattle.text.specs.Blank.{whiteSpace, blank}
 use Rattle.text.specs.Lines.{linesOf, count, joinLines}
 use Rattle.text.specs.Number.{allDigits, value, digitsOf, digitsAt, signOf, numberOf, Numeral, zeros}

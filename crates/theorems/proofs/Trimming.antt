@@ -12,7 +12,8 @@ use Rattle.text.specs.Ranges.{pick}
 use Rattle.text.specs.Blank.{blank}
 use Rattle.text.specs.Find.{findFrom}
 use Rattle.text.specs.Lines.{count}
-use Rattle.text.specs.Text.{textAt, sound, codes, trimmed, runCodes, pastCodes, allBlank, endCodes, trimCodes}
+use Rattle.text.specs.Text.{textAt, sound, trimmed, runCodes, pastCodes, allBlank, endCodes, trimCodes}
+use Rattle.text.specs.inside.Codes.{codes}
 use Rattle.theorems.specs.Unicode.{scalar, encode, trailing, scalars, encodeAll}
 use Rattle.text.specs.declared.find.Place.the-variants.{Here, Nowhere}
 use Rattle.text.proofs.Flat.{by-test}

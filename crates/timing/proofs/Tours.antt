@@ -14,13 +14,14 @@ use Rattle.lines.specs.Record.{most}
 use Rattle.tables.specs.declared.table.Table.{Table}
 use Rattle.tables.specs.declared.table.Piece.{Piece}
 use Rattle.maps.specs.Walk.{Walk, walkOf, listed}
-use Rattle.maps.specs.Stepping.{noPiece}
+use Rattle.maps.specs.Walk.{noPiece}
 use Rattle.maps.specs.Listing.{noPieces}
 use Rattle.timing.specs.declared.walk.Adding.{Adding}
 use Rattle.timing.specs.declared.walk.Tour.{Tour}
 use Rattle.timing.specs.Sum.{foldOf}
 use Rattle.timing.specs.Read.{tableIn}
-use Rattle.timing.specs.Walk.{pieceIn, piecesIn, afterWindow, walkSum, addingOf, addedOf, Short, setOut, touredOf, Ready}
+use Rattle.timing.specs.Walk.{pieceIn, piecesIn, afterWindow, walkSum}
+use Rattle.timing.specs.inside.Tours.{addingOf, addedOf, Short, setOut, touredOf, Ready}
 use Rattle.timing.proofs.Turns.{one-more, whole, none}
 
 -- a piece's three numbers, one after the other

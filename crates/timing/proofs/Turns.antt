@@ -12,7 +12,8 @@ use Rattle.tables.specs.declared.table.Mapping.{Mapping}
 use Rattle.maps.specs.Map.{mapOf}
 use Rattle.timing.specs.declared.map.Tally.{Tally}
 use Rattle.timing.specs.Sum.{foldOf}
-use Rattle.timing.specs.Map.{asked, placeOf, mappingIn, nextOf, turnOf, firstOf, Steady, mapSum}
+use Rattle.timing.specs.Map.{asked, placeOf, mappingIn, nextOf, mapSum}
+use Rattle.timing.specs.inside.Tallies.{turnOf, firstOf, Steady}
 
 pub record Going (k : Tally) : Type 0 where
   pub says : k .more ≡ ltb 0 (k .left)

@@ -1,5 +1,5 @@
 -- The sum over many mappings of one table, each with its place and its run.
-use Prim.Native.Nat.{ℕ, zero, suc, _+_, _-_, _*_, _%_, _<_}
+use Prim.Native.Nat.{ℕ, zero, suc, _+_, _*_, _%_}
 use mathlib.Core.Bool.{Bool}
 use lib.Dec.{ltb}
 use Rattle.text.specs.Ranges.{pick}
@@ -9,7 +9,6 @@ use Rattle.tables.specs.declared.table.ShallowMapping.the-variants.{Eof, Zero, 
 use Rattle.tables.specs.declared.table.Mapping.{Mapping}
 use Rattle.maps.specs.Map.{mapOf}
 use Rattle.timing.specs.Sum.{foldOf}
-use Rattle.timing.specs.declared.map.Tally.{Tally}
 
 -- every mapping asks for so many bytes
 abbrev pub asked : ℕ
@@ -38,21 +37,3 @@ nextOf ascending o = pick ascending ((o + 4096) % 2147483648) ((o * 1103515245 +
 unfoldable pub mapSum : Bool → ℕ → Table → ℕ → ℕ → ℕ
 mapSum ascending zero t o s = s
 mapSum ascending (suc n) t o s = mapSum ascending n t (nextOf ascending o) (mappingIn s (mapOf t o asked))
-
--- the loop's tally: after a mapping, before the first one, and with one more mapping at an offset below 2^31
-abbrev pub turnOf : Tally → Mapping → Tally
-turnOf k g =
-    record {
-      more = ltb 1 (k .left);
-      offset = nextOf (k .ascending) (k .offset);
-      asked = k .asked;
-      left = k .left - 1;
-      sum = mappingIn (k .sum) g;
-      ascending = k .ascending;
-    }
-
-abbrev pub firstOf : ℕ → ℕ → Tally
-firstOf ascending n = record { more = ltb 0 n; offset = 0; asked = asked; left = n; sum = 0; ascending = isAscending ascending }
-
-abbrev pub Steady : Tally → Type 0
-Steady k = (0 < k .left) × (k .offset < 2147483648)

@@ -6,10 +6,11 @@ use tables::table::ShallowMapping;
 use tables::table::Table;
 ghost use mathlib.Core.Path.{_≡_};
 ghost use Prim.Native.Nat.{_<_};
-ghost use Rattle.timing.specs.Map.{placeOf, nextOf, turnOf, firstOf, Steady, isAscending, mapSum};
+ghost use Rattle.timing.specs.Map.{placeOf, nextOf, isAscending, mapSum};
+ghost use Rattle.timing.specs.inside.Tallies.{turnOf, firstOf, Steady};
 
 // Where the loop stands: whether there is one more mapping, its offset and the length asked, how many are left, the sum so far, and whether offsets ascend.
-pub struct Tally {
+pub(crate) struct Tally {
     pub more: bool,
     pub offset: u64,
     pub asked: u64,
@@ -96,7 +97,7 @@ fn many(t: &Table, ascending: u64, count: u64) -> u64
 }
 
 // The sum over so many mappings of a table. By hand.
-pub fn map_in(t: Table, ascending: u64, count: u64) -> u64
+pub(crate) fn map_in(t: Table, ascending: u64, count: u64) -> u64
     ensures { λ r. ⌜ r ≡ mapSum (isAscending ascending) count t 0 0 ⌝ }
 {
     many(&t, ascending, count)

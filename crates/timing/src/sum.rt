@@ -3,7 +3,7 @@ ghost use mathlib.Core.Path.{_≡_};
 ghost use Rattle.timing.specs.Sum.{foldOf};
 
 // The sum with one more value in it.
-pub fn fold(sum: u64, value: u64) -> u64
+pub(crate) fn fold(sum: u64, value: u64) -> u64
     ensures { λ r. ⌜ r ≡ foldOf sum value ⌝ }
 {
     let twice = std::num::wrapping_add_u64(sum, sum);

@@ -1,17 +1,18 @@
 // Many walks of one table, into one list of pieces; both are lent.
 use crate::sum::fold;
+use maps::walk;
 use tables::table::Piece;
 use tables::table::PieceSource;
 use tables::table::Table;
-use maps::walk;
 ghost use mathlib.Core.Path.{_≡_};
 ghost use Prim.Native.Nat.{_<_, _≤_};
 ghost use lib.ListN.{length, take};
 ghost use Rattle.maps.specs.Listing.{noPieces};
-ghost use Rattle.timing.specs.Walk.{pieceIn, piecesIn, addedOf, addingOf, Short, touredOf, setOut, Ready, walkSum};
+ghost use Rattle.timing.specs.Walk.{pieceIn, piecesIn, walkSum};
+ghost use Rattle.timing.specs.inside.Tours.{addedOf, addingOf, Short, touredOf, setOut, Ready};
 
 // Where the adding of a list's pieces stands: whether there is one more piece, its number, how many there are, and the sum so far.
-pub struct Adding {
+pub(crate) struct Adding {
     pub more: bool,
     pub at: usize,
     pub count: usize,
@@ -19,7 +20,7 @@ pub struct Adding {
 }
 
 // Where the loop of walks stands: whether there is one more walk, its position and its window, how many are left, and the sum so far.
-pub struct Tour {
+pub(crate) struct Tour {
     pub more: bool,
     pub at: u64,
     pub window: u64,
@@ -71,7 +72,7 @@ fn added_sum(k: Adding) -> u64
 }
 
 // The sum with a list's first pieces in it. By hand.
-pub fn add_pieces(list: &mut [Piece], count: usize, sum: u64) -> u64
+pub(crate) fn add_pieces(list: &mut [Piece], count: usize, sum: u64) -> u64
     requires { ⌜ count ≤ length (now list) ⌝ }
     ensures { λ r. ⌜ (r ≡ piecesIn sum (take count (now (list .entry)))) × (now (list .exit) ≡ now (list .entry)) ⌝ }
 {
@@ -150,7 +151,7 @@ fn tours(t: &Table, window: u64, count: u64) -> u64
 }
 
 // The sum over so many walks of a table. By hand.
-pub fn walk_in(t: Table, window: u64, count: u64) -> u64
+pub(crate) fn walk_in(t: Table, window: u64, count: u64) -> u64
     ensures { λ r. ⌜ r ≡ walkSum count t window 0 0 ⌝ }
 {
     tours(&t, window, count)

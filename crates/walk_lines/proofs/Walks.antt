@@ -13,7 +13,7 @@ use Rattle.lines.specs.Record.{most}
 use Rattle.lines.specs.declared.record.Refusal.{Refusal}
 use Rattle.lines.specs.declared.record.Verdict.the-variants.{Sound, Refused as Stopped}
 use Rattle.maps.specs.Walk.{Walk, walkOf, walked, listed}
-use Rattle.maps.specs.Stepping.{noPiece}
+use Rattle.maps.specs.Walk.{noPiece}
 use Rattle.maps.specs.Listing.{noPieces, listingOf}
 use Rattle.maps.specs.declared.by_value.Listing.{Listing}
 use Rattle.tables.specs.declared.table.Row.{Row}

@@ -4,6 +4,7 @@ ghost use Rattle.puts.specs.Put.{Put};
 ghost use Rattle.phrases.specs.Line.{line, linesTo, nameOf};
 ghost use Rattle.walk_lines.specs.Walk.{rawWords, pieceWords, pieceLine, stopText, stopLine, walkLines, walkLinesOf};
 use lines::record::Verdict;
+use maps::by_value::listed;
 use phrases::line::field;
 use phrases::line::last_field;
 use phrases::line::last_source_name;
@@ -20,7 +21,6 @@ use tables::table::Source;
 use tables::table::Stop;
 use tables::table::Table;
 use tables::table::Walked;
-use maps::by_value::listed;
 
 // Puts a raw piece's place in its file, from its offset to the line's end.
 fn raw_piece(

@@ -1,6 +1,6 @@
 use Prim.Native.Nat.{_-_}
 use mathlib.Core.Path.{_≡_}
-use Rattle.descriptor.specs.Array.{sizesIn}
+use Rattle.descriptor.specs.inside.Array.{sizesIn}
 use Rattle.descriptor.proofs.Reading.{sizesAt}
 use Rattle.descriptor.proofs.Reading.{sizes}
 use Rattle.descriptor.proofs.read.check_sizes.Statement.{statement}

@@ -7,7 +7,7 @@ use mathlib.Core.List.{[]}
 use lib.ListN.{length}
 use Rattle.text.specs.Ranges.{pick}
 use Rattle.lines.specs.Record.{noDesc}
-use Rattle.descriptor.specs.Array.{Tidy, readIn}
+use Rattle.descriptor.specs.inside.Array.{Tidy, readIn}
 use Rattle.descriptor.proofs.Reading.{leftOf}
 use Rattle.descriptor.proofs.Reading.{readings}
 use Rattle.descriptor.proofs.read.parse_lines.Statement.{statement}

@@ -43,7 +43,7 @@ use denote.Exit.{yes}
 use denote.Signature.{plain}
 use Rattle.tables.specs.Build.{noRow}
 use Rattle.maps.specs.Map.{Search, nowhere, middle as middleOf, halve}
-use Rattle.maps.specs.Halving.{upon, packed, nextOf}
+use Rattle.maps.specs.inside.Halving.{upon, packed, nextOf}
 use Rattle.tables.specs.declared.table.Row.{Row}
 use Rattle.tables.specs.declared.table.Table.{Table}
 use Rattle.maps.specs.declared.halving.Next.{Next}

@@ -31,7 +31,7 @@ use denote.Triple.Table.{entered}
 use denote.Triple.Walked.{says, Stays, stay-none-ref, walkOf, goes-none-ref, Walks, ends-at, walked, walk-meets}
 use denote.Exit.{yes}
 use denote.Signature.{plain}
-use Rattle.maps.specs.Halving.{headOf}
+use Rattle.maps.specs.inside.Halving.{headOf}
 use Rattle.tables.specs.declared.table.Table.{Table}
 use Rattle.text.proofs.sector.Bytes as B
 use Rattle.text.proofs.sector.Bytes.Laws as B′

@@ -1,7 +1,6 @@
 -- `maps::mapping::answer` meets its contract. The tests are the definition's, in its order.
 -- Assumes nothing.
-use native.Mathlib.Omega.{arith}
-use Rattle.maps.proofs.Mappings.{answer-many, answers}
+use Rattle.maps.proofs.Mappings.{answers}
 use Rattle.maps.proofs.mapping.answer.Statement.{statement}
 use Rattle.maps.proofs.mapping.answer.Tie as tie
 

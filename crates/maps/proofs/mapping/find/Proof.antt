@@ -37,7 +37,7 @@ use denote.Triple.Table.{entered, cited}
 use denote.Triple.Walked.{says, Stays, stay-none, stay-none-ref, walkOf, goes-none, goes-none-ref, Walks, ends-at, walked, walk-meets}
 use denote.Exit.{yes}
 use denote.Signature.{plain}
-use Rattle.maps.specs.Halving.{headOf, upon, packed, hitOf, unpackOf, spanOf, endOf, endRow, Held, foundOf}
+use Rattle.maps.specs.inside.Halving.{headOf, upon, packed, hitOf, unpackOf, spanOf, endOf, endRow, Held, foundOf}
 use Rattle.tables.specs.declared.table.Row.{Row}
 use Rattle.tables.specs.declared.table.Table.{Table}
 use Rattle.maps.specs.declared.halving.Hit.{Hit}

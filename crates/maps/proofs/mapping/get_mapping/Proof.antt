@@ -35,7 +35,7 @@ use denote.Triple.Walked.{says, Stays, stay-none, stay-none-ref, walkOf, goes-no
 use denote.Exit.{yes}
 use denote.Signature.{plain}
 use Rattle.maps.specs.Map.{mapOf}
-use Rattle.maps.specs.Halving.{foundOf, answerOf}
+use Rattle.maps.specs.inside.Halving.{foundOf, answerOf}
 use Rattle.tables.specs.declared.table.Table.{Table}
 use Rattle.maps.specs.declared.mapping.Found.{Found}
 use Rattle.tables.specs.declared.table.Mapping.{Mapping}

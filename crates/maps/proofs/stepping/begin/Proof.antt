@@ -1,7 +1,6 @@
 -- `maps::stepping::begin` meets its contract. A count above 128 is told first. Otherwise it is the stand before any piece.
 -- Assumes nothing.
-use native.Mathlib.Omega.{arith}
-use Rattle.maps.proofs.Steps.{begin-many, begins}
+use Rattle.maps.proofs.Steps.{begins}
 use Rattle.maps.proofs.stepping.begin.Statement.{statement}
 use Rattle.maps.proofs.stepping.begin.Tie as tie
 use Rattle.maps.proofs.stepping.begin.Reads as reads

@@ -39,8 +39,8 @@ use denote.Exit.{yes}
 use denote.Signature.{plain}
 use Rattle.text.specs.Ranges.{pick}
 use Rattle.maps.specs.Map.{mapOf}
-use Rattle.maps.specs.Halving.{foundOf, answerOf}
-use Rattle.maps.specs.Stepping.{Meant, Ready, markOf, endMark, mapAt}
+use Rattle.maps.specs.inside.Halving.{foundOf, answerOf}
+use Rattle.maps.specs.inside.Stepping.{Meant, Ready, markOf, endMark, mapAt}
 use Rattle.tables.specs.declared.table.Table.{Table}
 use Rattle.tables.specs.declared.table.Mapping.{Mapping}
 use Rattle.maps.specs.declared.mapping.Found.{Found}

@@ -44,8 +44,8 @@ use denote.Triple.Walked.{says, Stays, stay-slice, stay-none, stay-none-ref, wal
 use denote.Exit.{yes}
 use denote.Signature.{plain}
 use Rattle.maps.specs.Walk.{Walk, walkOf, walked, listed}
-use Rattle.maps.specs.Halving.{headOf}
-use Rattle.maps.specs.Stepping.{beginOf, afterOf, Ready, mapAt, finishOf}
+use Rattle.maps.specs.inside.Halving.{headOf}
+use Rattle.maps.specs.inside.Stepping.{beginOf, afterOf, Ready, mapAt, finishOf}
 use Rattle.lines.specs.Record.{most}
 use Rattle.tables.specs.declared.table.Piece.{Piece}
 use Rattle.tables.specs.declared.table.Table.{Table}

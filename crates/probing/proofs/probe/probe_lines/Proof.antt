@@ -3,7 +3,7 @@
 use Prim.Native.Nat.{_-_, _≤_}
 use mathlib.Core.Path.{_≡_}
 use lib.ListN.{length}
-use Rattle.probing.specs.Probe.{probeAt}
+use Rattle.probing.specs.inside.Places.{probeAt}
 use Rattle.probing.proofs.Probing.{probing}
 use Rattle.probing.proofs.probe.probe_lines.Statement.{statement}
 use Rattle.probing.proofs.probe.probe_lines.Tie as tie

@@ -1,7 +1,7 @@
 -- `find::without_byte` meets its contract. The invariant: the first i bytes were tested, at most 16; those left fall.
 use Prim.Native.Nat.{_-_, _≤_}
 use mathlib.Core.Path.{_≡_}
-use Rattle.text.specs.Blocks.{each, isOther}
+use Rattle.text.specs.inside.Blocks.{each, isOther}
 use Rattle.text.proofs.Blocks.{eachs}
 use Rattle.text.proofs.find.without_byte.Statement.{statement}
 use Rattle.text.proofs.find.without_byte.Tie as tie

@@ -2,7 +2,7 @@
 -- for the rest; the bytes still to come fall.
 use Prim.Native.Nat.{_+_, _<_}
 use mathlib.Core.Path.{_≡_}
-use Rattle.text.specs.Utf8.{cap, tailAt}
+use Rattle.text.specs.inside.Places.{cap, tailAt}
 use Rattle.text.proofs.Chars.{tails}
 use Rattle.text.proofs.utf8.tail.Statement.{statement}
 use Rattle.text.proofs.utf8.tail.Tie as tie

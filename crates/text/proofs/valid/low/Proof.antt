@@ -1,7 +1,7 @@
 -- `valid::low` meets its contract. The invariant: the first i bytes were tested, at most 16; those left fall.
 use Prim.Native.Nat.{_-_, _≤_}
 use mathlib.Core.Path.{_≡_}
-use Rattle.text.specs.Blocks.{each, isLow}
+use Rattle.text.specs.inside.Blocks.{each, isLow}
 use Rattle.text.proofs.Blocks.{eachs}
 use Rattle.text.proofs.valid.low.Statement.{statement}
 use Rattle.text.proofs.valid.low.Tie as tie

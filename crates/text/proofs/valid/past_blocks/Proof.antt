@@ -1,7 +1,7 @@
 -- `valid::past_blocks` meets its contract. The invariant: whole characters are passed from where it began to `at`; the bytes left fall.
 use Prim.Native.Nat.{_-_}
 use lib.ListN.{length}
-use Rattle.text.specs.Blocks.{Passed}
+use Rattle.text.specs.inside.Blocks.{Passed}
 use Rattle.text.proofs.Passes.{lows}
 use Rattle.text.proofs.valid.past_blocks.Statement.{statement}
 use Rattle.text.proofs.valid.past_blocks.Tie as tie

@@ -1,7 +1,7 @@
 -- `valid::valid` meets its contract. The invariant: whole characters are passed from 0 to `at`; the bytes left fall.
 use Prim.Native.Nat.{_-_}
 use lib.ListN.{length}
-use Rattle.text.specs.Blocks.{Passed}
+use Rattle.text.specs.inside.Blocks.{Passed}
 use Rattle.text.proofs.Passes.{valids}
 use Rattle.text.proofs.valid.valid.Statement.{statement}
 use Rattle.text.proofs.valid.valid.Tie as tie

@@ -2,7 +2,7 @@
 use Prim.Native.Nat.{_-_, _<_}
 use lib.ListN.{length}
 use mathlib.Core.Path.{_≡_}
-use Rattle.text.specs.Blocks.{backTo}
+use Rattle.text.specs.inside.Blocks.{backTo}
 use Rattle.text.proofs.Ends.{backs}
 use Rattle.text.proofs.words.start_of.Statement.{statement}
 use Rattle.text.proofs.words.start_of.Tie as tie

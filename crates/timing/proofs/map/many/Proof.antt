@@ -43,7 +43,8 @@ use denote.Signature.{plain}
 use Rattle.maps.specs.Map.{mapOf}
 use Rattle.tables.specs.declared.table.Table.{Table}
 use Rattle.tables.specs.declared.table.Mapping.{Mapping}
-use Rattle.timing.specs.Map.{isAscending, turnOf, firstOf, Steady, mapSum}
+use Rattle.timing.specs.Map.{isAscending, mapSum}
+use Rattle.timing.specs.inside.Tallies.{turnOf, firstOf, Steady}
 use Rattle.timing.specs.declared.map.Tally.{Tally}
 use Rattle.tables.proofs.table.Table as TT
 use Rattle.tables.proofs.table.Table.Laws as TT′

@@ -49,7 +49,8 @@ use Rattle.maps.specs.Walk.{Walk, walkOf, walked, listed}
 use Rattle.maps.specs.Listing.{noPieces}
 use Rattle.tables.specs.declared.table.Table.{Table}
 use Rattle.tables.specs.declared.table.Piece.{Piece}
-use Rattle.timing.specs.Walk.{piecesIn, touredOf, setOut, Ready, walkSum}
+use Rattle.timing.specs.Walk.{piecesIn, walkSum}
+use Rattle.timing.specs.inside.Tours.{touredOf, setOut, Ready}
 use Rattle.timing.specs.declared.walk.Tour.{Tour}
 use Rattle.tables.proofs.table.Table as TT
 use Rattle.tables.proofs.table.Table.Laws as TT′

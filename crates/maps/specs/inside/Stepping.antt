@@ -16,11 +16,7 @@ use Rattle.maps.specs.declared.halving.Heading.{Heading}
 use Rattle.maps.specs.declared.stepping.Stand.{Stand}
 use Rattle.maps.specs.declared.stepping.Mark.{Mark}
 use Rattle.maps.specs.Map.{mapOf}
-use Rattle.maps.specs.Walk.{zeroPiece, rawPiece}
-
--- a piece of nothing
-abbrev pub noPiece : Piece
-noPiece = zeroPiece 0 0 0
+use Rattle.maps.specs.Walk.{noPiece, zeroPiece, rawPiece}
 
 -- a walk that ends where it stands, after k rows looked at
 abbrev pub halted : Stop → ℕ → ℕ → ℕ → ℕ → Stand

@@ -3,7 +3,7 @@ use Prim.Native.Nat.{ℕ, _≤_}
 use mathlib.Core.List.{List}
 use mathlib.Core.Path.{_≡_}
 use lib.ListN.{length, take}
-use Rattle.text.specs.Lines.{linesAt}
+use Rattle.text.specs.inside.Places.{linesAt}
 use Rattle.lines.specs.Record.{most, noExtent, filled}
 use Rattle.descriptor.specs.Read.{sizesFrom, readLines}
 use Rattle.lines.specs.declared.record.Verdict.{Verdict}
