@@ -14,6 +14,7 @@ pub mod Orders
 pub mod Places
 pub mod RefusalNumbers
 pub mod Refusals
+pub mod Reports
 pub mod Routes
 pub mod Rows
 pub mod Sayings
@@ -22,6 +23,7 @@ pub mod Shared
 pub mod Spellings
 pub mod Theorems
 pub mod TheoremsOfReading
+pub mod TheoremsOfReport
 pub mod TheoremsOfText
 pub mod Tiles
 pub mod Tiling

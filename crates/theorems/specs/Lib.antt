@@ -2,6 +2,7 @@ pub mod Cases
 pub mod Continuing
 pub mod Looks
 pub mod Maps
+pub mod Reports
 pub mod Rows
 pub mod Statements
 pub mod Tiling

@@ -1,0 +1,64 @@
+-- The words of the theorems about the answers: the report of document 01, whole, and what stands in an answer.
+use Prim.Native.Nat.{ℕ}
+use Prim.Native.String.{String}
+use mathlib.Core.List.{List, [], _∷_, _++_, map}
+use mathlib.Core.Path.{_≡_}
+use mathlib.Core.Logic.{_⊎_}
+use Rattle.text.specs.Ascii.{ascii}
+use Rattle.text.specs.Lines.{joinLines}
+use Rattle.probing.specs.Probe.{probeOf}
+use Rattle.descriptor.specs.Read.{readOf}
+use Rattle.lines.specs.declared.record.Refusal.{Refusal}
+use Rattle.lines.specs.declared.record.Verdict.the-variants.{Sound, Refused}
+use Rattle.tables.specs.Build.{buildOf}
+use Rattle.tables.specs.declared.table.Table.{Table}
+use Rattle.maps.specs.Map.{mapOf}
+use Rattle.walks.specs.Walk.{walkOf}
+use Rattle.phrases.specs.Line.{refusedLine}
+use Rattle.disk_lines.specs.Report.{probeLine, tableLines, reportOf}
+use Rattle.map_lines.specs.Map.{mappingLine, mapLineOf}
+use Rattle.walk_lines.specs.Walk.{walkLines, walkLinesOf}
+use Rattle.theorems.specs.Rows.{Builds}
+
+-- the eight lines that the program writes for document 01's descriptor
+abbrev pub reportDue : List String
+reportDue =
+    "probe yes"
+    ∷ "version 1"
+    ∷ "size 4096"
+    ∷ "extents 4"
+    ∷ "0 0 2048 FLAT RW 1024 reel a.vmdk"
+    ∷ "1 2048 2048 ZERO RDONLY"
+    ∷ "2 2048 2560 NOACCESS"
+    ∷ "3 2560 4096 ZERO RDONLY"
+    ∷ []
+
+-- lines, with a 0A between each two and none after the last
+abbrev pub unended : List String → List ℕ
+unended ls = joinLines (map ascii ls)
+
+-- reading the descriptor is refused so, or it is read and building is refused so
+abbrev pub RefusedBy : List ℕ → Refusal → Type 0
+RefusedBy d x =
+    (readOf d .verdict ≡ Refused x) ⊎ ((readOf d .verdict ≡ Sound) × (buildOf (readOf d .descriptor) .verdict ≡ Refused x))
+
+-- the descriptor is read, and this is the table of its record
+abbrev pub Opens : List ℕ → Table → Type 0
+Opens d t = (readOf d .verdict ≡ Sound) × Builds (readOf d .descriptor) t
+
+-- Only the refusal is written: the report has the probe's line before it, and the other answers have nothing else.
+pub record OnlyRefused (d : List ℕ) (x : Refusal) : Type 0 where
+  pub report : reportOf d ≡ probeLine (probeOf d) ++ refusedLine x
+  pub map : (offset long : ℕ) → mapLineOf d offset long ≡ refusedLine x
+  pub walk : (offset long places : ℕ) → walkLinesOf d offset long places ≡ refusedLine x
+
+-- Each answer is written of the table, and the report has the probe's line before it.
+pub record OfTable (d : List ℕ) (t : Table) : Type 0 where
+  pub report : reportOf d ≡ probeLine (probeOf d) ++ tableLines d (readOf d .descriptor .desc .version) t
+  pub map : (offset long : ℕ) → mapLineOf d offset long ≡ mappingLine d (t .rows) (mapOf t offset long)
+  pub walk : (offset long places : ℕ) → walkLinesOf d offset long places ≡ walkLines d (t .rows) (walkOf t places offset long)
+
+-- words, each with one space after it
+abbrev pub eachSpaced : List (List ℕ) → List ℕ
+eachSpaced [] = []
+eachSpaced (w ∷ ws) = w ++ (0x20 ∷ eachSpaced ws)
