@@ -1,5 +1,6 @@
 pub mod Built
 pub mod Continuing
+pub mod Digits
 pub mod Encodings
 pub mod Enough
 pub mod ExtentLines
@@ -30,3 +31,4 @@ pub mod Tiling
 pub mod Trimming
 pub mod Verdicts
 pub mod Versions
+pub mod Widths
