@@ -11,6 +11,7 @@ pub mod Limits
 pub mod LinePlaces
 pub mod Maps
 pub mod Marked
+pub mod NameSums
 pub mod Orders
 pub mod Places
 pub mod RefusalNumbers
@@ -28,6 +29,7 @@ pub mod TheoremsOfReport
 pub mod TheoremsOfText
 pub mod Tiles
 pub mod Tiling
+pub mod Totals
 pub mod Trimming
 pub mod Verdicts
 pub mod Versions

@@ -66,7 +66,7 @@ setAll d (Nothing ∷ ss) = setAll d ss
 setAll d (Extent x ∷ ss) = setAll d ss
 setAll d (Refused n ∷ ss) = setAll d ss
 
-extents-cons : (s : Said) (ss : List Said) → extentsIn (s ∷ ss) ≡ extentsIn (s ∷ []) ++ extentsIn ss
+pub extents-cons : (s : Said) (ss : List Said) → extentsIn (s ∷ ss) ≡ extentsIn (s ∷ []) ++ extentsIn ss
 unfolding extentsIn
 extents-cons Nothing ss = refl
 extents-cons (Set v) ss = refl
