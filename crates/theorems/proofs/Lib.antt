@@ -17,9 +17,11 @@ pub mod Places
 pub mod RefusalNumbers
 pub mod Refusals
 pub mod Reports
+pub mod Rising
 pub mod Routes
 pub mod Rows
 pub mod Sayings
+pub mod SecondNumbers
 pub mod Sequences
 pub mod Shared
 pub mod Spellings

@@ -82,29 +82,29 @@ row-short d i r h g k s =
     rw line-long (omega (arith, decimal-short _ h, decimal-short _ g, decimal-short _ k, source-short d (r .source) s))
 
 -- ---- a mapping
--- the numbers of a mapping are of 64 bits
-abbrev pub Shows : ShallowMapping → Type 0
-Shows Eof = Unit {0}
-Shows (Zeroed i) = i ≤ largest
-Shows (Raw i o w) = (i ≤ largest) × (o ≤ largest)
-Shows (Refused k) = k ≤ largest
+-- the numbers of a mapping that gives a run are of 64 bits, and so is a refusal's
+abbrev pub Shows : ShallowMapping → ℕ → Type 0
+Shows Eof run = Unit {0}
+Shows (Zeroed i) run = (run ≤ largest) × (i ≤ largest)
+Shows (Raw i o w) run = (run ≤ largest) × (i ≤ largest) × (o ≤ largest)
+Shows (Refused k) run = k ≤ largest
 
--- the name that its line has
+-- how many bytes the name has that stands in its line
 abbrev pub shownName : List ℕ → List Row → ShallowMapping → ℕ
 shownName d rows Eof = 0
 shownName d rows (Zeroed i) = 0
 shownName d rows (Raw i o w) = length (nameOf d (sourceAt rows i))
 shownName d rows (Refused k) = 0
 
-mapping-long : (d : List ℕ) (rows : List Row) (run n : ℕ) (m : ShallowMapping) → run ≤ largest → n ≤ largest → Shows m → length (line (mappingWords d rows run n m)) ≤ 111 + shownName d rows m
-mapping-long d rows run n Eof h g k = rw line-long (omega (arith, decimal-short _ g))
-mapping-long d rows run n (Zeroed i) h g k = rw line-long (omega (arith, decimal-short _ h, decimal-short _ g, decimal-short _ k))
-mapping-long d rows run n (Raw i o w) h g k =
-    rw line-long (omega (arith, decimal-short _ h, decimal-short _ g, decimal-short _ (k .0), decimal-short _ (k .1), mode-short w))
-mapping-long d rows run n (Refused e) h g k = rw line-long (omega (arith, decimal-short _ g, decimal-short _ k))
+words-shown : (d : List ℕ) (rows : List Row) (run n : ℕ) (m : ShallowMapping) → n ≤ largest → Shows m run → length (line (mappingWords d rows run n m)) ≤ 111 + shownName d rows m
+words-shown d rows run n Eof g k = rw line-long (omega (arith, decimal-short _ g))
+words-shown d rows run n (Zeroed i) g k = rw line-long (omega (arith, decimal-short _ g, decimal-short _ (k .0), decimal-short _ (k .1)))
+words-shown d rows run n (Raw i o w) g k =
+    rw line-long (omega (arith, decimal-short _ g, decimal-short _ (k .0), decimal-short _ (k .1), decimal-short _ (k .2), mode-short w))
+words-shown d rows run n (Refused e) g k = rw line-long (omega (arith, decimal-short _ g, decimal-short _ k))
 
-pub mapping-short : (d : List ℕ) (rows : List Row) (m : Mapping) → m .run ≤ largest → m .looked ≤ largest → Shows (m .mapping) → length (mappingLine d rows m) ≤ 111 + shownName d rows (m .mapping)
-mapping-short d rows m h g k = mapping-long d rows (m .run) (m .looked) (m .mapping) h g k
+pub mapping-short : (d : List ℕ) (rows : List Row) (m : Mapping) → m .looked ≤ largest → Shows (m .mapping) (m .run) → length (mappingLine d rows m) ≤ 111 + shownName d rows (m .mapping)
+mapping-short d rows m g k = words-shown d rows (m .run) (m .looked) (m .mapping) g k
 
 -- ---- a walk
 -- a piece's numbers are of 64 bits
