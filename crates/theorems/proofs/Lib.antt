@@ -4,6 +4,7 @@ pub mod Digits
 pub mod Encodings
 pub mod Enough
 pub mod ExtentLines
+pub mod Fits
 pub mod Halving
 pub mod Joins
 pub mod Least

@@ -3,8 +3,8 @@
 -- Assumes nothing.
 use Prim.Native.Nat.{ℕ, _+_, _*_, _≤_}
 use native.Mathlib.Omega.{arith}
-use mathlib.Core.List.{List, [], _∷_, _++_}
-use mathlib.Core.Path.{_≡_, refl, sym, ap, _∙_}
+use mathlib.Core.List.{List, [], _∷_}
+use mathlib.Core.Path.{_≡_, refl, sym, ap}
 use lib.ListN.{length, take, drop, length-append, length-take, length-drop}
 use lib.Seq.{drop-append-add, drop-drop}
 use Rattle.text.specs.Lines.{linesOf, joinLines}
@@ -23,19 +23,16 @@ use Rattle.lines.specs.declared.record.VmdkParsedStorage.the-variants.{NoAccess
 use Rattle.descriptor.specs.Read.{readOf}
 use Rattle.phrases.specs.Line.{nameIn, nameOf}
 use Rattle.report.specs.Room.{rowMost}
+use Rattle.theorems.specs.Reports.{total, nameBytes}
 use Rattle.theorems.specs.Rows.{sourceOf}
 use Rattle.theorems.specs.Statements.{sayings, extentsIn, SourceIn}
 use Rattle.theorems.proofs.ExtentLines.{extent-says}
 use Rattle.theorems.proofs.LinePlaces.{Lies, first-lies}
 use Rattle.theorems.proofs.Sayings.{extents-cons}
 use Rattle.theorems.proofs.Verdicts.{accepted-extents}
-use Rattle.theorems.proofs.Totals.{total, total-append}
+use Rattle.theorems.proofs.Totals.{total-append}
 
--- how many bytes an extent's name has in the descriptor
-abbrev pub nameBytes : List ℕ → VmdkParsedExtent → ℕ
-nameBytes d x = length (nameOf d (sourceOf (x .storage)))
-
--- the most bytes of its row's or piece's line
+-- the most bytes of an extent's line in an answer
 abbrev pub lineBytes : List ℕ → VmdkParsedExtent → ℕ
 lineBytes d x = rowMost + nameBytes d x
 

@@ -55,18 +55,22 @@ empty-computes = refl
 
 -- ---- by the verdicts
 module _ (d : List ℕ) where
-  pub read-refused : (x : Refusal) → readOf d .verdict ≡ Refused x → OnlyRefused d x
+  read-refused : (x : Refusal) → readOf d .verdict ≡ Refused x → OnlyRefused d x
   unfolding reportOf mapLineOf walkLinesOf openOf
   read-refused x e = record { report = rw e; map = λ o l. rw e; walk = λ o l p. rw e }
 
   module _ (s : readOf d .verdict ≡ Sound) where
-    pub build-refused : (x : Refusal) → buildOf (readOf d .descriptor) .verdict ≡ Refused x → OnlyRefused d x
+    build-refused : (x : Refusal) → buildOf (readOf d .descriptor) .verdict ≡ Refused x → OnlyRefused d x
     unfolding reportOf mapLineOf walkLinesOf openOf
     build-refused x e = record { report = rw (s, e); map = λ o l. rw (s, e); walk = λ o l p. rw (s, e) }
 
     pub built-written : (t : Table) → buildOf (readOf d .descriptor) ≡ record { verdict = Sound; table = t } → OfTable d t
     unfolding reportOf mapLineOf walkLinesOf openOf
     built-written t e = record { report = rw (s, e); map = λ o l. rw (s, e); walk = λ o l p. rw (s, e) }
+
+pub only-refused : (d : List ℕ) (x : Refusal) → RefusedBy d x → OnlyRefused d x
+only-refused d x (inl e) = read-refused d x e
+only-refused d x (inr e) = build-refused d (e .0) x (e .1)
 
 -- one of the two, for every input
 pub refused-or-opens : (d : List ℕ) → ((x : Refusal) × RefusedBy d x) ⊎ ((t : Table) × Opens d t)

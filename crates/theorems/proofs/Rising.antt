@@ -1,26 +1,33 @@
 -- A piece that is not the last ends where its row does, and rows before that end no later: so the next piece is by a later row.
 -- That holds on any table whose rows' ends never fall, wherever and why the walk stops.
 -- Assumes nothing.
-use Prim.Native.Nat.{ℕ, zero, suc, _+_, _-_, _<_, _≤_}
+use Prim.Native.Nat.{ℕ, zero, suc, _+_, _-_, _<_, _≤_, min}
 use native.Mathlib.Omega.{arith}
 use mathlib.Core.List.{List, [], _∷_}
-use mathlib.Core.Path.{sym, subst}
+use mathlib.Core.Path.{_≡_, sym, subst}
 use lib.ListN.{length}
 use lib.Dec.{leb}
 use borrow.Author.Tests.{leb-true, leb-false}
 use Rattle.text.specs.Sector.{largest}
+use Rattle.lines.specs.Record.{most, counted}
+use Rattle.lines.specs.declared.record.Record.{Record}
+use Rattle.lines.specs.declared.record.VmdkParsedExtent.{VmdkParsedExtent}
 use Rattle.tables.specs.declared.table.Table.{Table}
 use Rattle.tables.specs.declared.table.Piece.{Piece}
 use Rattle.tables.specs.declared.table.ShallowMapping.{ShallowMapping}
 use Rattle.tables.specs.declared.table.ShallowMapping.the-variants.{Eof, Zero, Raw, Refused}
 use Rattle.maps.specs.Map.{mapOf}
-use Rattle.walks.specs.Walk.{Walk, zeroPiece, rawPiece, step, walkFrom}
-use Rattle.theorems.specs.Rows.{rowAt}
+use Rattle.maps.specs.Place.{bytesIn, sizeOf}
+use Rattle.walks.specs.Walk.{Walk, zeroPiece, rawPiece, step, walkFrom, walkOf}
+use Rattle.theorems.specs.Rows.{Builds, rowAt}
 use Rattle.theorems.specs.Tiling.{All, Rise, rowsOf}
 use Rattle.text.proofs.Flat.{by-test}
+use Rattle.theorems.proofs.Built.{Numbers, tableIn, table-laid, length-laid}
 use Rattle.theorems.proofs.Enough.{Cut, Gives, gives}
+use Rattle.theorems.proofs.Joins.{walk-of}
 use Rattle.theorems.proofs.Orders.{three-ways}
 use Rattle.theorems.proofs.Routes.{over-or-on, walk-full, walk-step}
+use Rattle.theorems.proofs.Rows.{start-in, end-in, rows-apart}
 use Rattle.theorems.proofs.Widths.{Numbered, Stops}
 
 -- the rows' ends never fall
@@ -93,3 +100,37 @@ module _ (t : Table) (up : EndsRise t) (size : t .size .0 ≤ largest) (few : t 
       (λ c l. let m = mapOf t pos left in
       rw (walk-step t pos left c l room)
       (step-stops pos left l (m .mapping) (m .run) (m .looked) (walkFrom room t (pos + m .run) (left - m .run)) (gives t pos left) (walk-stops room (pos + m .run) (left - m .run))))
+
+-- ---- a table of extents
+size-numbers : (start : ℕ) (xs : List VmdkParsedExtent) → start ≤ largest → Numbers start xs → start + sizeOf xs ≤ largest
+unfolding sizeOf
+size-numbers start [] h n = omega arith
+size-numbers start (x ∷ xs) h n = omega (arith, size-numbers (start + bytesIn x) xs (n .0) (n .2))
+
+module _ (xs : List VmdkParsedExtent) where
+  pub count-is : tableIn xs .count ≡ length xs
+  count-is = length-laid 0 xs
+
+  ends-rise : EndsRise (tableIn xs)
+  ends-rise j k h l =
+      let i : k < length xs = omega (arith, count-is) in omega (arith, rows-apart xs j k h i, start-in xs k i, end-in xs k i)
+
+  module _ (few : length xs ≤ most) (n : Numbers 0 xs) where
+    pub size-small : tableIn xs .size .0 ≤ largest
+    size-small = omega (arith, size-numbers 0 xs (omega arith) n)
+
+    pub table-rises : (places pos left : ℕ) → Rising (tableIn xs) 0 (walkOf (tableIn xs) places pos left .pieces)
+    table-rises places pos left =
+        rw (walk-of (tableIn xs) places pos left (omega (arith, count-is)))
+        (walk-rises (tableIn xs) ends-rise size-small (omega (arith, count-is)) (min places most) pos left 0 (λ j l. absurd (omega arith)))
+
+    pub table-stops : (places pos left : ℕ) → pos ≤ largest → StopsWell (walkOf (tableIn xs) places pos left)
+    table-stops places pos left h =
+        rw (walk-of (tableIn xs) places pos left (omega (arith, count-is)))
+        (walk-stops (tableIn xs) ends-rise size-small (omega (arith, count-is)) (min places most) pos left h)
+
+-- the rows of a walk over a built table
+pub built-rises : (r : Record) (t : Table) → Builds r t → (places pos left : ℕ) → Rise 0 (rowsOf (walkOf t places pos left .pieces))
+built-rises r t b places pos left =
+    let g = table-laid r t b in
+    subst (λ (t : Table). Rise 0 (rowsOf (walkOf t places pos left .pieces))) (sym (g .0)) (table-rises (counted r) (g .1) (g .2) places pos left .0)

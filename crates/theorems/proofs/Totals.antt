@@ -1,20 +1,16 @@
 -- A list's total is the sum of what each element counts for.
 -- Numbers that rise take each number at most once, so what they count for is at most the total of all.
 -- Assumes nothing.
-use Prim.Native.Nat.{ℕ, zero, suc, _+_, _*_, _<_, _≤_}
+use Prim.Native.Nat.{ℕ, zero, suc, _+_, _<_, _≤_}
 use native.Mathlib.Omega.{arith}
 use mathlib.Core.List.{List, [], _∷_, _++_}
-use mathlib.Core.Path.{_≡_, refl, sym, ap, _∙_, subst}
+use mathlib.Core.Path.{_≡_, refl}
 use lib.ListN.{length, getD}
 use lib.Dec.{eqb}
 use borrow.Author.Tests.{eqb-true, eqb-false}
+use Rattle.theorems.specs.Reports.{total}
 use Rattle.theorems.specs.Tiling.{All, Rise}
 use Rattle.text.proofs.Flat.{by-test}
-
--- the sum over a list
-unfoldable pub total : {A : Type 0} → (A → ℕ) → List A → ℕ
-total f [] = 0
-total f (x ∷ xs) = f x + total f xs
 
 pub total-append : {A : Type 0} (f : A → ℕ) (xs ys : List A) → total f (xs ++ ys) ≡ total f xs + total f ys
 unfolding total
@@ -26,20 +22,19 @@ unfoldable pub span : (ℕ → ℕ) → ℕ → ℕ → ℕ
 span f i zero = 0
 span f i (suc n) = f i + span f (suc i) n
 
--- numbers that rise, from one of them on
-pub total-rise : (f : ℕ → ℕ) (n i : ℕ) (ks : List ℕ) → Rise i ks → All (λ (k : ℕ). k < i + n) ks → total f ks ≤ span f i n
+-- numbers below m that rise, from one of them on
+pub total-rise : (f : ℕ → ℕ) (m n i : ℕ) (ks : List ℕ) → i + n ≡ m → Rise i ks → All (λ (k : ℕ). k < m) ks → total f ks ≤ span f i n
 unfolding total span
-total-rise f zero i [] r a = omega arith
-total-rise f zero i (k ∷ ks) r a = absurd (omega (arith, r .0, a .0))
-total-rise f (suc n) i [] r a = omega arith
-total-rise f (suc n) i (k ∷ ks) r a =
-    let s : i + suc n ≡ suc i + n = omega arith in
+total-rise f m zero i [] s r a = omega arith
+total-rise f m zero i (k ∷ ks) s r a = absurd (omega (arith, r .0, a .0))
+total-rise f m (suc n) i [] s r a = omega arith
+total-rise f m (suc n) i (k ∷ ks) s r a =
     by-test (eqb i k)
     (λ e. let q = eqb-true i k e in
-    let g : total f ks ≤ span f (suc i) n = total-rise f n (suc i) ks (rw (← q) at (r .1)) (rw s at (a .1)) in
+    let g : total f ks ≤ span f (suc i) n = total-rise f m n (suc i) ks (omega arith) (rw (← q) at (r .1)) (a .1) in
     rw (← q) (omega arith))
     (λ e. let q = eqb-false i k e in
-    let g : total f (k ∷ ks) ≤ span f (suc i) n = total-rise f n (suc i) (k ∷ ks) (omega (arith, r .0), r .1) (rw s at a) in
+    let g : total f (k ∷ ks) ≤ span f (suc i) n = total-rise f m n (suc i) (k ∷ ks) (omega arith) (omega (arith, r .0), r .1) a in
     omega arith)
 
 -- the sum over a list, by its elements' numbers

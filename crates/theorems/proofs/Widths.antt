@@ -5,7 +5,7 @@ use Prim.Native.Nat.{ℕ, suc, _+_, _≤_}
 use native.Mathlib.Omega.{arith}
 use mathlib.Core.List.{List, [], _∷_}
 use mathlib.Core.Bool.{Bool, true, false}
-use mathlib.Core.Path.{_≡_, refl}
+use mathlib.Core.Path.{_≡_}
 use lib.ListN.{length, length-append}
 use Rattle.text.specs.Sector.{largest}
 use Rattle.lines.specs.declared.record.Refusal.{Refusal}
@@ -23,12 +23,11 @@ use Rattle.tables.specs.declared.table.Walked.{Walked}
 use Rattle.tables.specs.declared.table.Mapping.{Mapping}
 use Rattle.tables.specs.declared.table.ShallowMapping.{ShallowMapping}
 use Rattle.tables.specs.declared.table.ShallowMapping.the-variants.{Eof, Zero as Zeroed, Raw, Refused}
-use Rattle.puts.specs.Decimal.{decimalOf}
-use Rattle.phrases.specs.Line.{spaced, ended, field, line, nameIn, nameOf, sourceAt, accessWord, modeWord, refusedLine}
+use Rattle.phrases.specs.Line.{spaced, ended, field, line, nameOf, sourceAt, accessWord, modeWord, refusedLine}
 use Rattle.disk_lines.specs.Report.{probeLine, sourceWords, rowLine, headLines}
 use Rattle.map_lines.specs.Map.{mappingLine, mappingWords}
 use Rattle.walk_lines.specs.Walk.{pieceWords, pieceLine, stopText, stopLine}
-use Rattle.report.specs.Room.{rowMost, headMost}
+use Rattle.report.specs.Room.{rowMost}
 use Rattle.theorems.proofs.Digits.{decimal-short}
 
 -- ---- a line

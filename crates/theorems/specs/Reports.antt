@@ -1,24 +1,29 @@
 -- The words of the theorems about the answers: the report of document 01, whole, and what stands in an answer.
-use Prim.Native.Nat.{ℕ}
+use Prim.Native.Nat.{ℕ, _+_, _≤_}
 use Prim.Native.String.{String}
 use mathlib.Core.List.{List, [], _∷_, _++_, map}
 use mathlib.Core.Path.{_≡_}
 use mathlib.Core.Logic.{_⊎_}
+use lib.ListN.{length}
 use Rattle.text.specs.Ascii.{ascii}
 use Rattle.text.specs.Lines.{joinLines}
+use Rattle.text.specs.Sector.{largest}
 use Rattle.probing.specs.Probe.{probeOf}
 use Rattle.descriptor.specs.Read.{readOf}
 use Rattle.lines.specs.declared.record.Refusal.{Refusal}
 use Rattle.lines.specs.declared.record.Verdict.the-variants.{Sound, Refused}
+use Rattle.lines.specs.declared.record.VmdkParsedExtent.{VmdkParsedExtent}
 use Rattle.tables.specs.Build.{buildOf}
 use Rattle.tables.specs.declared.table.Table.{Table}
 use Rattle.maps.specs.Map.{mapOf}
 use Rattle.walks.specs.Walk.{walkOf}
-use Rattle.phrases.specs.Line.{refusedLine}
+use Rattle.phrases.specs.Line.{nameOf, refusedLine}
 use Rattle.disk_lines.specs.Report.{probeLine, tableLines, reportOf}
 use Rattle.map_lines.specs.Map.{mappingLine, mapLineOf}
 use Rattle.walk_lines.specs.Walk.{walkLines, walkLinesOf}
-use Rattle.theorems.specs.Rows.{Builds}
+use Rattle.report.specs.declared.command.Command.{Command}
+use Rattle.report.specs.declared.command.Command.the-variants.{Report, Map, Walk, Usage}
+use Rattle.theorems.specs.Rows.{Builds, sourceOf}
 
 -- the eight lines that the program writes for document 01's descriptor
 abbrev pub reportDue : List String
@@ -62,3 +67,19 @@ pub record OfTable (d : List ℕ) (t : Table) : Type 0 where
 abbrev pub eachSpaced : List (List ℕ) → List ℕ
 eachSpaced [] = []
 eachSpaced (w ∷ ws) = w ++ (0x20 ∷ eachSpaced ws)
+
+-- the sum over a list
+unfoldable pub total : {A : Type 0} → (A → ℕ) → List A → ℕ
+total f [] = 0
+total f (x ∷ xs) = f x + total f xs
+
+-- how many bytes an extent's name has in the descriptor; zeros and no access have none
+abbrev pub nameBytes : List ℕ → VmdkParsedExtent → ℕ
+nameBytes d x = length (nameOf d (sourceOf (x .storage)))
+
+-- a number that is asked and written is one of 64 bits, as all of the program's are: where a walk starts
+abbrev pub Asked : Command → Type 0
+Asked Report = Unit {0}
+Asked (Map offset long) = Unit {0}
+Asked (Walk offset long places) = offset ≤ largest
+Asked Usage = Unit {0}
