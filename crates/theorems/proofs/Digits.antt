@@ -11,6 +11,10 @@ use Rattle.puts.specs.Decimal.{decimalOf}
 use Rattle.text.proofs.Flat.{by-test}
 use Rattle.puts.proofs.Decimals.{decimal-low, decimal-tens}
 
+-- the most digits of a number of 64 bits
+abbrev pub digitsMost : ℕ
+digitsMost = 20
+
 pub decimal-most : (k n : ℕ) → n < 10 ^ suc k → length (decimalOf n) ≤ suc k
 decimal-most zero n h = let g : n < 10 = omega arith in rw (decimal-low n g) (omega arith)
 decimal-most (suc k) n h =
@@ -18,10 +22,6 @@ decimal-most (suc k) n h =
     (λ e. let g = ltb-true n 10 e in rw (decimal-low n g) (omega arith))
     (λ e. let g = ltb-false n 10 e in
     rw (decimal-tens n g) (simp length-append (omega (arith, decimal-most k (n / 10) (omega arith)))))
-
--- the most digits of a number of 64 bits
-abbrev pub digitsMost : ℕ
-digitsMost = 20
 
 pub decimal-short : (n : ℕ) → n ≤ largest → length (decimalOf n) ≤ digitsMost
 decimal-short n h = decimal-most 19 n (omega arith)

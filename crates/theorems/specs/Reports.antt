@@ -77,7 +77,7 @@ total f (x ∷ xs) = f x + total f xs
 abbrev pub nameBytes : List ℕ → VmdkParsedExtent → ℕ
 nameBytes d x = length (nameOf d (sourceOf (x .storage)))
 
--- a number that is asked and written is one of 64 bits, as all of the program's are: where a walk starts
+-- where a walk starts, the one number asked that an answer may repeat, is a number of 64 bits, as every number of the program is
 abbrev pub Asked : Command → Type 0
 Asked Report = Unit {0}
 Asked (Map offset long) = Unit {0}
