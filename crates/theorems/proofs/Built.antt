@@ -40,38 +40,49 @@ laid start (x ∷ xs) = rowOf start x ∷ laid (start + bytesIn x) xs
 never : {i n : ℕ} {rs : List Row} {size : ℕ} → refused n i ≡ rows rs size → ⊥
 never e = let z : _≡_ {A = ℕ} 0 1 = cc in omega arith
 
+-- an extent's file start in bytes is a number of 64 bits
+abbrev pub FileStarts : VmdkParsedStorage → Type 0
+FileStarts NoAccess = Unit {0}
+FileStarts (Zero a) = Unit {0}
+FileStarts (Flat a name start) = start .0 * sectorSize ≤ largest
+
+-- extents that begin at a place of the disk: each ends at a number of 64 bits, and so starts its file
+abbrev pub Numbers : ℕ → List VmdkParsedExtent → Type 0
+Numbers start [] = Unit {0}
+Numbers start (x ∷ xs) = (start + bytesIn x ≤ largest) × FileStarts (x .storage) × Numbers (start + bytesIn x) xs
+
 -- what a refusal would have stopped has gone on
 module _ (else : Rows) (rs : List Row) (size : ℕ) (off : else ≡ rows rs size → ⊥) where
-  in-bytes : (s : Sectors) (go : ℕ → Rows) → inBytes (bytesOf s) else go ≡ rows rs size → go (s .0 * sectorSize) ≡ rows rs size
+  in-bytes : (s : Sectors) (go : ℕ → Rows) → inBytes (bytesOf s) else go ≡ rows rs size → (go (s .0 * sectorSize) ≡ rows rs size) × (s .0 * sectorSize ≤ largest)
   unfolding bytesOf
-  in-bytes s go h = by-test (leb (s .0 * sectorSize) largest) (λ e. rw e at h) (λ e. absurd (off (rw e at h)))
+  in-bytes s go h = by-test (leb (s .0 * sectorSize) largest) (λ e. (rw e at h, leb-true _ _ e)) (λ e. absurd (off (rw e at h)))
 
-  in-test : (b : Bool) (go : Rows) → pick b go else ≡ rows rs size → go ≡ rows rs size
-  in-test true go h = h
+  in-test : (b : Bool) (go : Rows) → pick b go else ≡ rows rs size → (go ≡ rows rs size) × (b ≡ true)
+  in-test true go h = (h, refl)
   in-test false go h = absurd (off h)
 
-  in-source : (st : VmdkParsedStorage) (go : Source → Rows) → inSource st else go ≡ rows rs size → go (sourceOf st) ≡ rows rs size
-  in-source NoAccess go h = h
-  in-source (Zero a) go h = h
+  in-source : (st : VmdkParsedStorage) (go : Source → Rows) → inSource st else go ≡ rows rs size → (go (sourceOf st) ≡ rows rs size) × FileStarts st
+  in-source NoAccess go h = (h, tt)
+  in-source (Zero a) go h = (h, tt)
   in-source (Flat a name start) go h = in-bytes start _ h
 
 in-front : (r : Row) (more : Rows) (rs : List Row) (size : ℕ) → before r more ≡ rows rs size → (rs′ : List Row) × (more ≡ rows rs′ size) × (rs ≡ r ∷ rs′)
 in-front r (rows rs′ n) rs size h = (rs′, cc, cc)
 in-front r (refused n i) rs size h = absurd (never h)
 
-pub rows-laid : (i start : ℕ) (xs : List VmdkParsedExtent) (rs : List Row) (size : ℕ) → rowsFrom i start xs ≡ rows rs size → (rs ≡ laid start xs) × (size ≡ start + sizeOf xs)
+pub rows-laid : (i start : ℕ) (xs : List VmdkParsedExtent) (rs : List Row) (size : ℕ) → rowsFrom i start xs ≡ rows rs size → (rs ≡ laid start xs) × (size ≡ start + sizeOf xs) × Numbers start xs
 unfolding rowsFrom laid sizeOf
 rows-laid i start [] rs size h =
     let a : [] ≡ rs = cc in
     let b : start ≡ size = cc in
-    (sym a, omega arith)
+    (sym a, omega arith, tt)
 rows-laid i start (x ∷ xs) rs size h =
     let h₁ = in-bytes (refused 18 i) rs size never (x .sectors) _ h in
-    let h₂ = in-test (refused 19 i) rs size never (leb (start + bytesIn x) largest) _ h₁ in
-    let h₃ = in-source (refused 20 i) rs size never (x .storage) _ h₂ in
-    let f = in-front (rowOf start x) (rowsFrom (suc i) (start + bytesIn x) xs) rs size h₃ in
+    let h₂ = in-test (refused 19 i) rs size never (leb (start + bytesIn x) largest) _ (h₁ .0) in
+    let h₃ = in-source (refused 20 i) rs size never (x .storage) _ (h₂ .0) in
+    let f = in-front (rowOf start x) (rowsFrom (suc i) (start + bytesIn x) xs) rs size (h₃ .0) in
     let g = rows-laid (suc i) (start + bytesIn x) xs (f .0) size (f .1) in
-    (f .2 ∙ rw (g .0), omega arith)
+    (f .2 ∙ rw (g .0), omega (arith, g .1), (leb-true _ _ (h₂ .1), h₃ .1, g .2))
 
 built-rows : (got : Rows) (t : Table) → built got ≡ record { verdict = Sound; table = t } → (rs : List Row) × (size : ℕ) × (got ≡ rows rs size) × (t ≡ tableOf rs size)
 built-rows (rows rs size) t h = (rs, size, refl, sym (ap (λ (b : Built). b .table) h))
@@ -92,13 +103,13 @@ rows-table xs rs size t h e =
     let s : size ≡ sizeOf xs = omega arith in
     rw (e, g .0, s)
 
--- a built table is the table of its extents' rows
-pub table-laid : (r : Record) (t : Table) → Builds r t → (t ≡ tableIn (counted r)) × (length (counted r) ≤ most)
+-- a built table is the table of its extents' rows, and its numbers are of 64 bits
+pub table-laid : (r : Record) (t : Table) → Builds r t → (t ≡ tableIn (counted r)) × (length (counted r) ≤ most) × Numbers 0 (counted r)
 unfolding buildOf
 table-laid r t h =
     by-test (leb (r .count) most)
     (λ e. let b = built-rows (rowsFrom 0 0 (counted r)) t (rw e at h) in
-    (rows-table (counted r) (b .0) (b .1) t (b .2) (b .3), counted-short r (leb-true (r .count) most e)))
+    (rows-table (counted r) (b .0) (b .1) t (b .2) (b .3), counted-short r (leb-true (r .count) most e), rows-laid 0 0 (counted r) (b .0) (b .1) (b .2) .2))
     (λ e. let b = built-rows (refused 23 0) t (rw e at h) in absurd (never (b .2)))
 
 pub length-laid : (start : ℕ) (xs : List VmdkParsedExtent) → length (laid start xs) ≡ length xs

@@ -6,7 +6,7 @@ use native.Mathlib.Omega.{arith}
 use mathlib.Core.List.{[], append-nil}
 use mathlib.Core.Path.{_≡_, refl, ap, _∙_, subst}
 use lib.Dec.{leb, ltb, eqb}
-use borrow.Author.Tests.{ltb-true, ltb-false, lt-ltb, le-ltb, eqb-true, eqb-false}
+use borrow.Author.Tests.{leb-true, ltb-true, ltb-false, lt-ltb, le-ltb, eqb-true, eqb-false}
 use Rattle.text.specs.Ranges.{pick}
 use Rattle.text.specs.Sector.{largest}
 use Rattle.lines.specs.Record.{most}
@@ -85,20 +85,22 @@ above-some t n i pos h a = omega (arith, above-less t n i pos (rowAt t i .end .0
 
 module _ (t : Table) (pos left : ℕ) where
   -- a mapping that gives a piece is by a row that holds the position, and its run is the least of three
-  abbrev Cut : ℕ → ℕ → Type 0
+  abbrev pub Cut : ℕ → ℕ → Type 0
   Cut i run = (i < t .count) × (pos < rowAt t i .end .0) × (run ≡ min left (min (t .size .0 - pos) (rowAt t i .end .0 - pos)))
 
-  abbrev Gives : ShallowMapping → ℕ → Type 0
+  -- what a mapping gives: a file offset of 64 bits, and no number of a refusal above 23
+  abbrev pub Gives : ShallowMapping → ℕ → Type 0
   Gives Eof run = Unit {0}
-  Gives (Refused number) run = Unit {0}
+  Gives (Refused number) run = number ≤ 23
   Gives (Zero i) run = Cut i run
-  Gives (Raw i at w) run = Cut i run
+  Gives (Raw i at w) run = Cut i run × (at ≤ largest)
 
   gives-source : (s : Source) (i within run n : ℕ) → Cut i run → Gives (sourced s i within run n .mapping) (sourced s i within run n .run)
   unfolding sourced
-  gives-source Locked i within run n c = tt
+  gives-source Locked i within run n c = omega arith
   gives-source (Zeros a) i within run n c = c
-  gives-source (File a start name) i within run n c = by-test (leb (start .0 + within) largest) (λ e. rw e c) (λ e. rw e tt)
+  gives-source (File a start name) i within run n c =
+      by-test (leb (start .0 + within) largest) (λ e. rw e (c, leb-true _ _ e)) (λ e. rw e (omega arith))
 
   gives-row : (s : Search) → searchOf t pos ≡ s → Gives (inRow t pos left s .mapping) (inRow t pos left s .run)
   unfolding inRow
@@ -107,11 +109,11 @@ module _ (t : Table) (pos left : ℕ) where
       let f = few-looks t pos left .found-row i n e in
       gives-source (rowAt t i .source) i _ _ n (f .0, holds-true (rowAt t i) pos (f .1) .1, refl)
 
-  gives : Gives (mapOf t pos left .mapping) (mapOf t pos left .run)
+  pub gives : Gives (mapOf t pos left .mapping) (mapOf t pos left .run)
   unfolding mapOf
   gives = by-test (leb (t .count) most)
       (λ e. rw e (by-test (leb (t .size .0) pos) (λ g. rw g tt) (λ g. rw g (gives-row (searchOf t pos) refl))))
-      (λ e. rw e tt)
+      (λ e. rw e (omega arith))
 
 -- a walk that stops with More was not over, and as many rows less as it had room for end above the position reached
 abbrev Fills : Table → ℕ → ℕ → ℕ → ℕ → Type 0
@@ -131,7 +133,7 @@ module _ (t : Table) (pos left : ℕ) (c : 0 < left) (l : pos < t .size .0) wher
   fills-step Eof run n room w g f e = not-more e
   fills-step (Refused number) run n room w g f e = let z : _≡_ {A = ℕ} 0 1 = cc in absurd (omega arith)
   fills-step (Zero i) run n room w g f e = fills-piece i run room (w .position) g (f e)
-  fills-step (Raw i at wr) run n room w g f e = fills-piece i run room (w .position) g (f e)
+  fills-step (Raw i at wr) run n room w g f e = fills-piece i run room (w .position) (g .0) (f e)
 
 fills : (room : ℕ) (t : Table) (pos left : ℕ) → walkFrom room t pos left .stop ≡ More → Fills t room pos left (walkFrom room t pos left .position)
 fills zero t pos left h =
@@ -162,7 +164,7 @@ none-above t pos left h (suc room) =
     no-piece Eof run n w g = refl
     no-piece (Refused number) run n w g = refl
     no-piece (Zero i) run n w g = no-cut g
-    no-piece (Raw i at wr) run n w g = no-cut g
+    no-piece (Raw i at wr) run n w g = no-cut (g .0)
 
 on-pieces : (w : Walk) (s : Stop) (next : Walk) → (s ≡ More → next .pieces ≡ []) → goOn w s next .pieces ≡ w .pieces
 on-pieces w Done next h = refl

@@ -29,7 +29,7 @@ unfolding placeAfter
 place-shift p [] = omega arith
 place-shift p (l ∷ ls) = omega (arith, place-shift (p + length l + 1) ls, place-shift (0 + length l + 1) ls)
 
-first-lies : (l : List ℕ) (ls : List (List ℕ)) → Lies (joinLines (l ∷ ls)) 0 l
+pub first-lies : (l : List ℕ) (ls : List (List ℕ)) → Lies (joinLines (l ∷ ls)) 0 l
 unfolding joinLines
 first-lies l [] = take-all (length l) l (omega arith)
 first-lies l (m ∷ ls) = take-append-seam l (0x0A ∷ joinLines (m ∷ ls))

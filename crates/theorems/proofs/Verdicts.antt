@@ -120,12 +120,20 @@ answered : (v : Verdict) (d : VmdkDesc) (xs : List VmdkParsedExtent) → answer 
 answered Sound d xs e = refl
 answered (Stopped r) d xs e = let z : _≡_ {A = ℕ} 0 1 = cc in absurd (omega arith)
 
-pub checked-sound : (d : VmdkDesc) (xs : List VmdkParsedExtent) → checked d xs .verdict ≡ Sound → (within 1 3 (d .version) ≡ true) × (checked d xs .descriptor ≡ recordOf d xs)
+checked-sound : (d : VmdkDesc) (xs : List VmdkParsedExtent) → checked d xs .verdict ≡ Sound → (within 1 3 (d .version) ≡ true) × (checked d xs .descriptor ≡ recordOf d xs)
 unfolding checked
 checked-sound d xs e =
     by-test (within 1 3 (d .version))
     (λ q. rw q (refl, answered (sizesFrom 0 0 xs) d xs (rw q at e)))
     (λ q. let g : refusal 17 0 ≡ Sound = rw q at e in let z : _≡_ {A = ℕ} 0 1 = cc in absurd (omega arith))
+
+-- the values and extents of all lines are those of the record, and the version is 1 to 3
+pub accepted-checked : (t : List ℕ) → readOf t .verdict ≡ Sound → (within 1 3 (setAll noDesc (sayingsOf t) .version) ≡ true) × (readOf t .descriptor ≡ recordOf (setAll noDesc (sayingsOf t)) (extentsIn (sayingsOf t)))
+accepted-checked t e =
+    let a = accepted-lines t e in
+    let q = lines-checked t (a .0) (a .1) in
+    let r = checked-sound (setAll noDesc (sayingsOf t)) (extentsIn (sayingsOf t)) (ap (λ (x : Read). x .verdict) (sym q) ∙ e) in
+    (r .0, ap (λ (x : Read). x .descriptor) q ∙ r .1)
 
 counted-all : (d : VmdkDesc) (xs : List VmdkParsedExtent) → counted (recordOf d xs) ≡ xs
 unfolding counted filled
@@ -133,8 +141,4 @@ counted-all d xs = take-append-seam xs (replicate (most - length xs) noExtent)
 
 -- its extents are those that its lines say
 pub accepted-extents : (t : List ℕ) → readOf t .verdict ≡ Sound → counted (readOf t .descriptor) ≡ extentsIn (sayingsOf t)
-accepted-extents t e =
-    let a = accepted-lines t e in
-    let q = lines-checked t (a .0) (a .1) in
-    let r = checked-sound (setAll noDesc (sayingsOf t)) (extentsIn (sayingsOf t)) (ap (λ (x : Read). x .verdict) (sym q) ∙ e) in
-    ap (λ (x : Read). counted (x .descriptor)) q ∙ rw (r .1) (counted-all (setAll noDesc (sayingsOf t)) (extentsIn (sayingsOf t)))
+accepted-extents t e = ap counted (accepted-checked t e .1) ∙ counted-all (setAll noDesc (sayingsOf t)) (extentsIn (sayingsOf t))

@@ -51,7 +51,7 @@ use Rattle.descriptor.specs.declared.read.Read.{Read}
 use Rattle.theorems.proofs.RefusalNumbers.{OfExtent, extent-locked-line, extent-line}
 use Rattle.theorems.proofs.Trimming.{Trimming, trim-front, trim-back, first-byte, encode-append, encode-cut, scalars-split, cut-at, blanks-free, count-append, find-none, find-behind}
 use Rattle.theorems.proofs.Sayings.{From, from-sizes, from-answer, setAll}
-use Rattle.theorems.proofs.Verdicts.{late, lines-sound, lines-checked, accepted-lines, checked-sound}
+use Rattle.theorems.proofs.Verdicts.{late, lines-sound, lines-checked, accepted-lines, accepted-checked}
 use Rattle.theorems.proofs.ExtentLines.{range-is, range-sound}
 
 -- ---- what says no version
@@ -383,11 +383,7 @@ module _ (t : List ℕ) where
 
   -- and its last version is 1 to 3
   pub last-accepted : readOf t .verdict ≡ Sound → within 1 3 (lastVersion (sayingsOf t)) ≡ true
-  last-accepted h =
-      let a = accepted-lines t h in
-      let q = lines-checked t (a .0) (a .1) in
-      let r = checked-sound (setAll noDesc (sayingsOf t)) (extentsIn (sayingsOf t)) (ap (λ (x : Read). x .verdict) (sym q) ∙ h) in
-      rw (version-set noDesc (sayingsOf t)) at (r .0)
+  last-accepted h = rw (version-set noDesc (sayingsOf t)) at (accepted-checked t h .0)
 
   -- 17 is answered exactly if every line is sound and the last version is not 1 to 3
   pub last-refused : (readOf t .verdict ≡ refusal 17 0) ↔ (ByLine t × AllSound (sayingsOf t) × (within 1 3 (lastVersion (sayingsOf t)) ≡ false))

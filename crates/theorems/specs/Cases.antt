@@ -50,8 +50,8 @@ is got due = record { got = got; due = due }
 abbrev extent : ℕ → VmdkParsedStorage → VmdkParsedExtent
 extent n st = record { sectors = record { 0 = n }; storage = st }
 
--- the lines of a descriptor, each ended by 0A
-abbrev lines : List String → List ℕ
+-- lines, each ended by 0A
+abbrev pub lines : List String → List ℕ
 lines [] = []
 lines (l ∷ ls) = ascii l ++ (0x0A ∷ lines ls)
 
@@ -87,7 +87,7 @@ walks t start long pieces stop position looked =
     is (walking (walkOf t 128 start long)) (walking (record { pieces = pieces; stop = stop; position = position; looked = looked }))
 
 -- the report's descriptor
-abbrev report : List String
+abbrev pub report : List String
 report =
     "# Disk DescriptorFile"
     ∷ "version=1"

@@ -5,6 +5,7 @@ pub mod Looks
 pub mod Maps
 pub mod NamedCases
 pub mod NamedPlaces
+pub mod Reports
 pub mod Rows
 pub mod Statements
 pub mod Tiling
