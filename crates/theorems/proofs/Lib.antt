@@ -1,3 +1,4 @@
+pub mod BeforeLines
 pub mod Built
 pub mod Continuing
 pub mod Encodings
@@ -8,9 +9,11 @@ pub mod Joins
 pub mod Least
 pub mod Limits
 pub mod LinePlaces
+pub mod MapRefusals
 pub mod Maps
 pub mod Marked
 pub mod Orders
+pub mod Over
 pub mod Places
 pub mod RefusalNumbers
 pub mod Refusals
@@ -22,6 +25,7 @@ pub mod Shared
 pub mod Spellings
 pub mod Theorems
 pub mod TheoremsOfReading
+pub mod TheoremsOfRefusals
 pub mod TheoremsOfText
 pub mod Tiles
 pub mod Tiling

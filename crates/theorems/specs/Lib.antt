@@ -2,6 +2,8 @@ pub mod Cases
 pub mod Continuing
 pub mod Looks
 pub mod Maps
+pub mod Over
+pub mod Refusing
 pub mod Rows
 pub mod Statements
 pub mod Tiling
