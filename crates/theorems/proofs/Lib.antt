@@ -6,8 +6,10 @@ pub mod Enough
 pub mod ExtentLines
 pub mod Halving
 pub mod Joins
+pub mod KeyLines
 pub mod Least
 pub mod Limits
+pub mod LineFaults
 pub mod LinePlaces
 pub mod MapRefusals
 pub mod Maps

@@ -1,5 +1,5 @@
 -- Each refusal is given exactly when the table of document 01 says so, with its second number: start here. Each theorem is proved by
--- citing the laws of its subject; specs/Over.antt, Refusing.antt and GivenWhen.antt have the words. 4 and 16 are in TheoremsOfReading.antt.
+-- citing the laws of its subject; specs/LineWords.antt, GivenWhen.antt, Over.antt and Refusing.antt have the words. 4 is in TheoremsOfReading.antt.
 use Prim.Native.Nat.{ℕ, _+_, _-_, _≤_, _<_}
 use mathlib.Core.List.{List}
 use mathlib.Core.Logic.{_↔_}
@@ -8,8 +8,12 @@ use mathlib.Core.Path.{_≡_}
 use lib.ListN.{length, take}
 use Rattle.text.specs.Ranges.{within}
 use Rattle.text.specs.Find.{begins}
+use Rattle.text.specs.Text.{trimmed}
 use Rattle.text.specs.Sector.{largest}
 use Rattle.lines.specs.Record.{most, mostBytes, counted, refusal}
+use Rattle.lines.specs.Line.{lineOf}
+use Rattle.lines.specs.declared.line.Said.the-variants.{Extent, Refused as Said·Refused}
+use Rattle.lines.specs.declared.record.VmdkParsedExtent.{VmdkParsedExtent}
 use Rattle.descriptor.specs.Read.{leastBytes, sparse, readOf}
 use Rattle.tables.specs.Build.{buildOf}
 use Rattle.maps.specs.Map.{mapOf}
@@ -20,11 +24,15 @@ use Rattle.lines.specs.declared.record.Verdict.the-variants.{Sound}
 use Rattle.tables.specs.declared.table.Table.{Table}
 use Rattle.tables.specs.declared.table.ShallowMapping.the-variants.{Refused}
 use Rattle.tables.specs.declared.table.Stop.the-variants.{Refused as Stopped}
-use Rattle.theorems.specs.Statements.{ByLine, sayingsOf, extentsIn, AllSound, lastVersion}
+use Rattle.theorems.specs.Statements.{ByLine, LineAt, sayingsOf, extentsIn, AllSound, ExtentIn, lastVersion}
+use Rattle.theorems.specs.LineWords.{NameAt}
+use Rattle.theorems.specs.GivenWhen.{Fault, faultNumber, When, FirstFault, OneMore}
 use Rattle.theorems.specs.Rows.{Builds}
 use Rattle.theorems.specs.Over.{SoundLines, SizeOver, SumOver, StartOver, FirstOver, StartsFit}
 use Rattle.theorems.specs.Refusing.{NoAccessAt, FileOverAt, StopsWhere}
 use Rattle.theorems.proofs.BeforeLines.{too-few, too-many, sparse-bytes}
+use Rattle.theorems.proofs.LinePlaces.{lies}
+use Rattle.theorems.proofs.LineFaults.{line-given, extent-exactly, fault-first, extents-full}
 use Rattle.theorems.proofs.Versions.{last-refused}
 use Rattle.theorems.proofs.Over.{size, sum, start, read-over, read-sound, build-over, build-sound, build-counted}
 use Rattle.theorems.proofs.MapRefusals.{map-locked, map-over, map-counted, walk-met, walk-locked, walk-file-over, walk-counted}
@@ -41,6 +49,23 @@ given-2 = too-many
 -- 3: a length in range, and sparse bytes.
 pub given-3 : (d : List ℕ) (k : ℕ) → (readOf d .verdict ≡ refusal 3 k) ↔ ((leastBytes ≤ length d) × (length d ≤ mostBytes) × (begins d sparse ≡ true) × (k ≡ 0))
 given-3 = sparse-bytes
+
+-- ---- the lines
+-- 5 to 15, of one line wherever it lies: it is refused with the number of a fault exactly if its trimmed text has that fault, as the table says.
+pub line-faults : (p : ℕ) (l : List ℕ) (f : Fault) → (lineOf p l ≡ Said·Refused (faultNumber f)) ↔ When f (trimmed l)
+line-faults = line-given
+
+-- 5 to 15, of reading: line k has the fault, and every line before it is sound.
+pub given-5-to-15 : (d : List ℕ) (f : Fault) (k : ℕ) → (readOf d .verdict ≡ refusal (faultNumber f) k) ↔ (ByLine d × FirstFault d f k)
+given-5-to-15 = fault-first
+
+-- 16: line k is a sound 129th extent line, and every line before it is sound.
+pub given-16 : (d : List ℕ) (k : ℕ) → (readOf d .verdict ≡ refusal 16 k) ↔ (ByLine d × OneMore d k)
+given-16 = extents-full
+
+-- A line says an extent exactly if its words have that extent's values and its file's name is kept where it lies between the quotes.
+pub extent-lines : (d : List ℕ) (before : List (List ℕ)) (l : List ℕ) (p k : ℕ) (x : VmdkParsedExtent) → LineAt d before l p k → (lineOf p l ≡ Extent x) ↔ (ExtentIn d (trimmed l) x × NameAt p l (x .storage))
+extent-lines d before l p k x a = extent-exactly d p l (lies d before l p k a) x
 
 -- ---- after the lines
 -- 17: every line is sound, and the last version is not 1 to 3.

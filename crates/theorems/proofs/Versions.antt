@@ -143,7 +143,7 @@ unfolding accessWord same
 v-word zero r = refl
 v-word (suc n) r = refl
 
-v-access : (p : ℕ) (t : List ℕ) (end : ℕ) → accessLine Other p t end ≡ keyLine p t
+pub v-access : (p : ℕ) (t : List ℕ) (end : ℕ) → accessLine Other p t end ≡ keyLine p t
 unfolding accessLine
 v-access p t end = refl
 
@@ -207,7 +207,7 @@ module _ (t a r : List ℕ) (e : t ≡ a ++ 0x3D ∷ r) (n : count 0x3D a ≡ 0)
   after-equals : drop (length a + 1) t ≡ r
   after-equals = rw e (drop-append-add a (0x3D ∷ r) 1)
 
-  key-said : (p : ℕ) → keyLine p t ≡ valueOf (keyOf (trimmed a)) (p + (length a + 1)) r
+  pub key-said : (p : ℕ) → keyLine p t ≡ valueOf (keyOf (trimmed a)) (p + (length a + 1)) r
   unfolding keyLine
   key-said p = rw (equals-at, before-equals, after-equals)
 
@@ -217,7 +217,7 @@ module _ (t a r : List ℕ) (e : t ≡ a ++ 0x3D ∷ r) (n : count 0x3D a ≡ 0)
 
 -- a text without `=`
 module _ (t : List ℕ) (n : count 0x3D t ≡ 0) where
-  key-silent : (p : ℕ) → keyLine p t ≡ Nothing
+  pub key-silent : (p : ℕ) → keyLine p t ≡ Nothing
   unfolding keyLine findAt
   key-silent p = rw (find-none 0x3D 0 t n)
 

@@ -1,5 +1,7 @@
 pub mod Cases
 pub mod Continuing
+pub mod GivenWhen
+pub mod LineWords
 pub mod Looks
 pub mod Maps
 pub mod Over
@@ -8,3 +10,4 @@ pub mod Rows
 pub mod Statements
 pub mod Tiling
 pub mod Unicode
+pub mod Values
