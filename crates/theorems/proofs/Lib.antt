@@ -7,6 +7,7 @@ pub mod ExtentLines
 pub mod Halving
 pub mod Joins
 pub mod KeyLines
+pub mod LastValues
 pub mod Least
 pub mod Limits
 pub mod LineFaults
@@ -29,6 +30,7 @@ pub mod Theorems
 pub mod TheoremsOfReading
 pub mod TheoremsOfRefusals
 pub mod TheoremsOfText
+pub mod TheoremsOfValues
 pub mod Tiles
 pub mod Tiling
 pub mod Trimming

@@ -174,7 +174,7 @@ module _ (p : ℕ) (t ms : List ℕ) (sc : scalars ms ≡ true) (e : t ≡ encod
   when-due unknown-key w = unknown-due p t (w .0) (w .1) (w .2) (w .3)
 
 -- a line with a fault is not empty
-key-some : (t key value : List ℕ) → KeyLine t key value → 0 < length t
+pub key-some : (t key value : List ℕ) → KeyLine t key value → 0 < length t
 key-some t key value k = rw (k .whole, length-append (k .before) (0x3D ∷ k .after)) (omega arith)
 
 when-some : (f : Fault) (t : List ℕ) → When f t → 0 < length t
@@ -197,7 +197,7 @@ module _ (p : ℕ) (l : List ℕ) where
   unfolding trimmed
   nothing-left q = rw q
 
-  says-by : {C : Type 0} (r : Trimmed) → trimOf l ≡ r → 0 < length (trimmed l) → ((a e : ℕ) (ms : List ℕ) → trimOf l ≡ Range a e → scalars ms ≡ true → trimmed l ≡ encodeAll ms → lineOf p l ≡ textLine (p + a) (trimmed l) → C) → C
+  pub says-by : {C : Type 0} (r : Trimmed) → trimOf l ≡ r → 0 < length (trimmed l) → ((a e : ℕ) (ms : List ℕ) → trimOf l ≡ Range a e → scalars ms ≡ true → trimmed l ≡ encodeAll ms → lineOf p l ≡ textLine (p + a) (trimmed l) → C) → C
   unfolding lineOf
   says-by (Range a e) q h g =
       let c = range-sound l q in

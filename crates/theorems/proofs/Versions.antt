@@ -300,7 +300,7 @@ unfolding refuses
 refuses-four h = let z : _≡_ {A = ℕ} 0 1 = cc in omega arith
 
 -- each of some lines that are not refused
-refuses-apart : (s : Said) (ss : List Said) → refuses (s ∷ ss) ≡ false → (refuses (s ∷ []) ≡ false) × (refuses ss ≡ false)
+pub refuses-apart : (s : Said) (ss : List Said) → refuses (s ∷ ss) ≡ false → (refuses (s ∷ []) ≡ false) × (refuses ss ≡ false)
 unfolding refuses
 refuses-apart Nothing ss h = (refl, h)
 refuses-apart (Set v) ss h = (refl, h)
