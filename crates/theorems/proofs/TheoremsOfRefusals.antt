@@ -59,7 +59,7 @@ line-faults = line-given
 pub given-5-to-15 : (d : List ℕ) (f : Fault) (k : ℕ) → (readOf d .verdict ≡ refusal (faultNumber f) k) ↔ (ByLine d × FirstFault d f k)
 given-5-to-15 = fault-first
 
--- 16: line k is a sound 129th extent line, and every line before it is sound.
+-- 16: line k is a sound extent line, one more than a record has room for, and every line before it is sound.
 pub given-16 : (d : List ℕ) (k : ℕ) → (readOf d .verdict ≡ refusal 16 k) ↔ (ByLine d × OneMore d k)
 given-16 = extents-full
 
@@ -97,11 +97,11 @@ building-19 r i = build-over r sum i
 pub building-20 : (r : Record) (i : ℕ) → (buildOf r .verdict ≡ refusal 20 i) ↔ ((r .count ≤ most) × StartsFit (take i (counted r)) × FirstOver StartOver (counted r) i)
 building-20 r i = build-over r start i
 
--- 23: a count above 128, whatever the extents are.
+-- 23: a count above the record's room, whatever the extents are.
 pub building-23 : (r : Record) (k : ℕ) → (buildOf r .verdict ≡ refusal 23 k) ↔ ((most < r .count) × (k ≡ 0))
 building-23 = build-counted
 
--- Building succeeds exactly if the count is at most 128, the sum of the sizes is within 2^64-1, and so is every file start in bytes.
+-- Building succeeds exactly if the count is within the record's room, the sum of the sizes is within 2^64-1, and so is every file start in bytes.
 pub built-when : (r : Record) → (buildOf r .verdict ≡ Sound) ↔ ((r .count ≤ most) × (sizeOf (counted r) ≤ largest) × StartsFit (counted r))
 built-when = build-sound
 
@@ -114,7 +114,7 @@ mapping-21 = map-locked
 pub mapping-22 : (r : Record) (t : Table) → Builds r t → (o asked : ℕ) → (mapOf t o asked .mapping ≡ Refused 22) ↔ FileOverAt (counted r) o
 mapping-22 = map-over
 
--- 23, of any table: a count above 128, whatever its rows and size are.
+-- 23, of any table: a count above the table's room, whatever its rows and size are.
 pub mapping-23 : (t : Table) (o asked : ℕ) → (mapOf t o asked .mapping ≡ Refused 23) ↔ (most < t .count)
 mapping-23 = map-counted
 
@@ -131,6 +131,6 @@ walk-21 = walk-locked
 pub walk-22 : (r : Record) (t : Table) → Builds r t → (places begin long : ℕ) → (walkOf t places begin long .stop ≡ Stopped 22) ↔ StopsWhere (FileOverAt (counted r)) places begin long (walkOf t places begin long)
 walk-22 = walk-file-over
 
--- 23, of any table: a count above 128, even where nothing is left or the list has no place.
+-- 23, of any table: a count above the table's room, even where nothing is left or the list has no place.
 pub walk-23 : (t : Table) (places begin long : ℕ) → (walkOf t places begin long .stop ≡ Stopped 23) ↔ (most < t .count)
 walk-23 = walk-counted

@@ -91,7 +91,7 @@ pub record FirstFault (d : List ℕ) (f : Fault) (k : ℕ) : Type 0 where
   pub sound : AllSound (sayings 0 before)
   pub fault : When f (trimmed line)
 
--- 16: line k of a descriptor, after lines that are all sound and say 128 extents, says one more
+-- 16: line k of a descriptor, after lines that are all sound and say as many extents as a record has room for, says one more
 pub record OneMore (d : List ℕ) (k : ℕ) : Type 0 where
   pub before : List (List ℕ)
   pub line : List ℕ

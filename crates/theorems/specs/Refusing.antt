@@ -18,7 +18,7 @@ NoAccessAt xs o = (i : ℕ) × (placeOf xs o ≡ locked i)
 abbrev pub FileOverAt : List VmdkParsedExtent → ℕ → Type 0
 FileOverAt xs o = (i f : ℕ) × (w : Bool) × (placeOf xs o ≡ file i f w) × (largest < f)
 
--- A walk over a length from a start, into a list of so many places, has stopped for want of nothing else: length is left and the list has room at the position reached, which is so.
+-- A walk over a length from a start, into a list of so many places, has reached a position which is so, and there length is left and the list has room.
 pub record StopsWhere (So : ℕ → Type 0) (places start long : ℕ) (w : Walk) : Type 0 where
   pub left : w .position < start + long
   pub room : length (w .pieces) < min places most
