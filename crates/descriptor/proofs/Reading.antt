@@ -14,7 +14,7 @@ use mir.Val.{Fits}
 use borrow.Author.Needs.{needs}
 use borrow.Author.Tests.{le-leb, lt-leb, leb-true, lt-ltb, le-ltb, ltb-true}
 use Rattle.text.specs.Ranges.{pick}
-use Rattle.text.specs.Sector.{bytesOf, largest, sectorSize}
+use Rattle.text.specs.Sector.{sectorsIn, bytesOf, largest, sectorSize}
 use Rattle.text.specs.declared.sector.Sectors.{Sectors}
 use Rattle.text.specs.declared.sector.Bytes.{Bytes}
 use Rattle.text.specs.declared.sector.ByteCount.{ByteCount}
@@ -38,6 +38,7 @@ use Rattle.lines.specs.declared.record.Verdict.{Verdict}
 use Rattle.lines.specs.declared.record.Verdict.the-variants.{Sound, Refused as Stopped}
 use Rattle.lines.specs.declared.record.VmdkDesc.{VmdkDesc}
 use Rattle.lines.specs.declared.record.VmdkParsedExtent.{VmdkParsedExtent}
+use Rattle.lines.specs.declared.record.VmdkParsedStorage.the-variants.{NoAccess}
 use Rattle.descriptor.specs.declared.read.Read.{Read}
 use Rattle.descriptor.proofs.Fillings.{set-filled}
 
@@ -73,12 +74,15 @@ module _ (d : VmdkDesc) (s : Setting) where
 
 pub ruleset sets = (set-version, set-cid, set-parent, set-type, set-sectors, set-heads, set-cylinders, needs)
 
--- The rule of `no_extents`
+-- The rules of `no_extent` and `no_extents`
+pub no-extent : {s : Sectors} → s ≡ sectorsIn 0 → _≡_ {A = VmdkParsedExtent} (record { sectors = s; storage = NoAccess }) noExtent
+no-extent q = rw q
+
 pub no-extents : {x : VmdkParsedExtent} → x ≡ noExtent → replicate 128 x ≡ filled noExtent []
 unfolding filled
 no-extents q = rw q
 
-pub ruleset nones = (no-extents, needs)
+pub ruleset nones = (no-extent, no-extents, needs)
 
 -- The rule of `refused`
 pub refused-is : {v : Verdict} {d : VmdkDesc} {xs : List VmdkParsedExtent} (n s : ℕ) → v ≡ refusal n s → d ≡ noDesc → xs ≡ filled noExtent [] → record { verdict = v; descriptor = record { desc = d; count = 0; extents = xs } } ≡ refusedRead n s
@@ -107,8 +111,8 @@ pub sizes-start : (a : List VmdkParsedExtent) (n : ℕ) → sizesIn a n ≡ size
 unfolding sizesIn sizesAt
 sizes-start a n = refl
 
-pub bytes-most : (s : Sectors) {r : ByteCount} {b : Bytes} → r ≡ bytesOf s → r ≡ Count b → b .0 ≤ largest
-bytes-most s p q = bytes-within s (sym p ∙ q)
+pub bytes-most : (s : Sectors) {r : ByteCount} {b : Bytes} {z : ℕ} → r ≡ bytesOf s → r ≡ Count b → z ≡ b .0 → z ≤ largest
+bytes-most s p q k = omega (arith, bytes-within s (sym p ∙ q))
 
 module _ (a : List VmdkParsedExtent) (n i sum : ℕ) (inv : sizesIn a n ≡ sizesAt a n i sum) where
   pub sizes-end : n ≤ i → Sound ≡ sizesIn a n
@@ -124,23 +128,23 @@ module _ (a : List VmdkParsedExtent) (n i sum : ℕ) (inv : sizesIn a n ≡ size
     unfolding sizesAt sizesFrom
     sizes-large q p = rw (inv, held-next, ← e, q, p)
 
-    module _ {b : Bytes} (q : r ≡ Count b) where
-      pub sizes-over : {v : Verdict} → largest - b .0 < sum → v ≡ refusal 19 i → v ≡ sizesIn a n
+    module _ {b : Bytes} {z : ℕ} (q : r ≡ Count b) (k : z ≡ b .0) where
+      pub sizes-over : {v : Verdict} → largest - z < sum → v ≡ refusal 19 i → v ≡ sizesIn a n
       unfolding sizesAt sizesFrom
       sizes-over o p =
-          let m = bytes-most (getD a i noExtent .sectors) e q in
-          let g : largest < sum + b .0 = omega arith in
-          rw (inv, held-next, ← e, q, lt-leb (sum + b .0) largest g, p)
+          let m = bytes-most (getD a i noExtent .sectors) e q k in
+          let g : largest < sum + z = omega arith in
+          rw (inv, held-next, ← e, q, ← k, lt-leb (sum + z) largest g, p)
 
-      pub sizes-more : sum ≤ largest - b .0 → sizesIn a n ≡ sizesAt a n (i + 1) (sum + b .0)
+      pub sizes-more : sum ≤ largest - z → sizesIn a n ≡ sizesAt a n (i + 1) (sum + z)
       unfolding sizesAt sizesFrom
       sizes-more o =
-          let m = bytes-most (getD a i noExtent .sectors) e q in
-          let g : sum + b .0 ≤ largest = omega arith in
-          rw (inv, held-next, ← e, q, le-leb (sum + b .0) largest g, add-one)
+          let m = bytes-most (getD a i noExtent .sectors) e q k in
+          let g : sum + z ≤ largest = omega arith in
+          rw (inv, held-next, ← e, q, ← k, le-leb (sum + z) largest g, add-one)
 
-      pub sizes-fit : sum ≤ largest - b .0 → Fits w64 (sum + b .0)
-      sizes-fit o = let m = bytes-most (getD a i noExtent .sectors) e q in omega arith
+      pub sizes-fit : sum ≤ largest - z → Fits w64 (sum + z)
+      sizes-fit o = let m = bytes-most (getD a i noExtent .sectors) e q k in omega arith
 
 pub ruleset sizes = (sizes-start, bytes-most, sizes-end, sizes-large, sizes-over, sizes-more, sizes-fit, needs)
 

@@ -87,7 +87,7 @@ fn no_extent() -> VmdkParsedExtent
     ensures { λ r. ⌜ r ≡ noExtent ⌝ }
 {
     VmdkParsedExtent {
-        sectors: Sectors(0),
+        sectors: Sectors::new(0),
         storage: VmdkParsedStorage::NoAccess,
     }
 }
@@ -137,7 +137,7 @@ fn check_sizes(extents: [VmdkParsedExtent; 128], count: usize) -> Verdict
         match size {
             ByteCount::TooLarge => return refuse(18, i),
             ByteCount::Count(b) => {
-                let n = b.0;
+                let n = b.offset();
                 if u64::MAX - n < sum {
                     return refuse(19, i);
                 }

@@ -57,8 +57,8 @@ module _ {o q : List ℕ} {at r : ℕ} (d : List ℕ) {s : Source} where
   pub source-zero : {a : VmdkAccessType} → s ≡ Zero a → Put o at (line (zeroWords a)) r q → Put o at (line (sourceWords d s)) r q
   source-zero e h = rw e h
 
-  pub source-flat : {a : VmdkAccessType} {b : Bytes} {t : Text} → s ≡ Flat a b t → Put o at (line (flatWords d a (b .0) t)) r q → Put o at (line (sourceWords d s)) r q
-  source-flat e h = rw e h
+  pub source-flat : {a : VmdkAccessType} {b : Bytes} {z : ℕ} {t : Text} → s ≡ Flat a b t → z ≡ b .0 → Put o at (line (flatWords d a z t)) r q → Put o at (line (sourceWords d s)) r q
+  source-flat e k h = rw (e, ← k) h
 
 pub ruleset sources = (source-none, source-zero, source-flat, put-length, needs)
 
@@ -69,9 +69,9 @@ row-word w d (Zero a) h k = line-more w _ _ h k
 row-word w d (Flat a b t) h k = line-more w _ _ h k
 
 -- The rule of `row_line`
-pub row-put : {o q q₁ q₂ q₃ : List ℕ} {at p₁ p₂ p₃ r : ℕ} (d : List ℕ) (i : ℕ) (x : Row) → Put o at (spaced (decimalOf i)) p₁ q₁ → Put q₁ p₁ (spaced (decimalOf (x .start .0))) p₂ q₂ → Put q₂ p₂ (spaced (decimalOf (x .end .0))) p₃ q₃ → Put q₃ p₃ (line (sourceWords d (x .source))) r q → Put o at (rowLine d i x) r q
+pub row-put : {o q q₁ q₂ q₃ : List ℕ} {at p₁ p₂ p₃ a e r : ℕ} (d : List ℕ) (i : ℕ) (x : Row) → a ≡ x .start .0 → e ≡ x .end .0 → Put o at (spaced (decimalOf i)) p₁ q₁ → Put q₁ p₁ (spaced (decimalOf a)) p₂ q₂ → Put q₂ p₂ (spaced (decimalOf e)) p₃ q₃ → Put q₃ p₃ (line (sourceWords d (x .source))) r q → Put o at (rowLine d i x) r q
 unfolding rowLine
-row-put d i x h₁ h₂ h₃ h = line-more _ _ _ h₁ (line-more _ _ _ h₂ (row-word _ d (x .source) h₃ h))
+row-put d i x j k h₁ h₂ h₃ h = line-more _ _ _ h₁ (line-more _ _ _ (rw j at h₂) (row-word _ d (x .source) (rw k at h₃) h))
 
 pub ruleset rows = (row-put, put-length, needs)
 
@@ -89,9 +89,9 @@ head-put v s n h = h
 pub ruleset heads = (head-put, put-then, put-length, needs)
 
 -- The rule of `table_lines`
-pub table-put : {o q s : List ℕ} {at p r : ℕ} (d : List ℕ) (v : ℕ) (t : Table) → Put o at (headLines v (t .size .0) (t .count)) p q → Put q p (linesTo (rowLine d) (t .rows) (t .count)) r s → Put o at (tableLines d v t) r s
+pub table-put : {o q s : List ℕ} {at p r z : ℕ} (d : List ℕ) (v : ℕ) (t : Table) → z ≡ t .size .0 → Put o at (headLines v z (t .count)) p q → Put q p (linesTo (rowLine d) (t .rows) (t .count)) r s → Put o at (tableLines d v t) r s
 unfolding tableLines
-table-put d v t h k = put-then h k
+table-put d v t e h k = put-then (rw e at h) k
 
 pub ruleset tables = (table-put, put-length, needs)
 

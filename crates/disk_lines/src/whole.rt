@@ -71,7 +71,7 @@ fn source(d: &[u8], s: Source, out: &mut [u8], at: usize) -> usize
     match s {
         Source::NoAccess => last_word(out, at, b"NOACCESS"),
         Source::Zero(a) => zero_source(a, out, at),
-        Source::Flat(a, start, name) => flat_source(d, a, start.0, name, out, at),
+        Source::Flat(a, start, name) => flat_source(d, a, start.offset(), name, out, at),
     }
 }
 
@@ -80,8 +80,10 @@ fn row_line(d: &[u8], i: usize, row: Row, out: &mut [u8], at: usize) -> usize
     ensures { λ r. ⌜ Put (now (out .entry)) at (rowLine (now (d .entry)) i row) r (now (out .exit)) ⌝ }
 {
     let at = number(out, at, i as u64);
-    let at = number(out, at, row.start.0);
-    let at = number(out, at, row.end.0);
+    let start = row.start;
+    let end = row.end;
+    let at = number(out, at, start.offset());
+    let at = number(out, at, end.offset());
     let s = row.source;
     source(d, s, out, at)
 }
@@ -118,7 +120,8 @@ fn table_lines(d: &[u8], version: u32, t: Table, out: &mut [u8], at: usize) -> u
 {
     let count = t.count;
     let rows = t.rows;
-    let at = head_lines(version as u64, t.size.0, count as u64, out, at);
+    let size = t.size;
+    let at = head_lines(version as u64, size.offset(), count as u64, out, at);
     row_lines(d, rows, count, out, at)
 }
 

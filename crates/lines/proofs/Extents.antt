@@ -4,14 +4,14 @@ use Prim.Native.Nat.{ℕ, _+_, _-_, _^_, _≤_, _<_}
 use native.Mathlib.Omega.{arith}
 use mathlib.Core.List.{List}
 use mathlib.Core.Bool.{Bool, true, false}
-use mathlib.Core.Path.{_≡_, sym, _∙_}
+use mathlib.Core.Path.{_≡_, sym, ap, _∙_}
 use lib.ListN.{length, take, drop}
 use mir.Syntax.{w64}
 use mir.Val.{Fits}
 use borrow.Author.Needs.{needs}
 use Rattle.text.specs.Text.{wordOf}
 use Rattle.text.specs.Find.{findAt, same}
-use Rattle.text.specs.Sector.{sectorsOf}
+use Rattle.text.specs.Sector.{sectorsIn, sectorsOf}
 use Rattle.text.specs.declared.words.Word.{Word}
 use Rattle.text.specs.declared.words.Word.the-variants.{Found, None}
 use Rattle.text.specs.declared.find.Place.{Place}
@@ -161,9 +161,9 @@ pub ruleset names = (found-after, found-end, found-next, found-take, found-place
 
 -- Rules of `file_start`
 module _ (t : List ℕ) (at : ℕ) {w : Word} (p : w ≡ wordOf t at) where
-  pub start-none : w ≡ None → Sectors·Count (record { 0 = 0 }) ≡ fileStartOf t at
+  pub start-none : {z : Sectors} → w ≡ None → z ≡ sectorsIn 0 → Sectors·Count z ≡ fileStartOf t at
   unfolding fileStartOf
-  start-none q = rw (← p, q)
+  start-none q m = rw (← p, q) (ap Sectors·Count m)
 
   pub start-word : {a e : ℕ} {n : SectorCount} → w ≡ Found a e → n ≡ sectorsOf (part t a e) → n ≡ fileStartOf t at
   unfolding fileStartOf

@@ -123,7 +123,7 @@ fn file_start(t: &[u8], from: usize) -> SectorCount
     let w = next_word(t, from);
     match w {
         Word::Found(a, e) => Sectors::of(&t[a..e]),
-        Word::None => SectorCount::Count(Sectors(0)),
+        Word::None => SectorCount::Count(Sectors::new(0)),
     }
 }
 

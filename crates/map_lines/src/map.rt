@@ -16,7 +16,7 @@ use tables::table::Row;
 use tables::table::ShallowMapping;
 use tables::table::Source;
 use tables::table::Table;
-use walks::by_value::mapped;
+use maps::by_value::mapped;
 
 // Puts a raw mapping's row, from its number to the line's end.
 fn raw_row(

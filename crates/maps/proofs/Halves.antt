@@ -209,7 +209,7 @@ unpack-upon rows o bound b (nowhere n) f = ap (λ (k : ℕ). unpackOf (packed (n
 
 pub span-most : (h : Heading) (o : ℕ) → spanOf h o ≤ 128
 unfolding spanOf
-span-most h o = pick-elim (λ (k : ℕ). k ≤ 128) (leb (h .count) most) _ _ (λ e. pick-elim (λ (k : ℕ). k ≤ 128) (leb (h .size) o) _ _ (λ _. omega arith) (λ _. leb-true (h .count) 128 e)) (λ _. omega arith)
+span-most h o = pick-elim (λ (k : ℕ). k ≤ 128) (leb (h .count) most) _ _ (λ e. pick-elim (λ (k : ℕ). k ≤ 128) (leb (h .size .0) o) _ _ (λ _. omega arith) (λ _. leb-true (h .count) 128 e)) (λ _. omega arith)
 
 minus : (k : ℕ) → k - 0 ≡ k
 minus k = omega arith

@@ -4,3 +4,12 @@ pub mod Rows
 pub mod Held
 pub mod Halves
 pub mod Mappings
+pub mod Again
+pub mod Steps
+pub mod Put
+pub mod Runs
+pub mod Marks
+pub mod Lent
+pub mod Local
+pub mod LentTable
+pub mod Listings

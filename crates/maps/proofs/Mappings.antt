@@ -40,13 +40,13 @@ module _ (h : Heading) (o : ℕ) where
   unfolding spanOf
   span-many a = rw (lt-leb _ _ a)
 
-  pub span-late : h .count ≤ 128 → h .size ≤ o → 0 ≡ spanOf h o
+  pub span-late : {z : ℕ} → h .count ≤ 128 → z ≡ h .size .0 → z ≤ o → 0 ≡ spanOf h o
   unfolding spanOf
-  span-late a b = rw (le-leb _ _ a, le-leb _ _ b)
+  span-late a k b = rw (le-leb _ _ a, ← k, le-leb _ _ b)
 
-  pub span-some : h .count ≤ 128 → o < h .size → h .count ≡ spanOf h o
+  pub span-some : {z : ℕ} → h .count ≤ 128 → z ≡ h .size .0 → o < z → h .count ≡ spanOf h o
   unfolding spanOf
-  span-some a b = rw (le-leb _ _ a, lt-leb _ _ b)
+  span-some a k b = rw (le-leb _ _ a, ← k, lt-leb _ _ b)
 
 pub ruleset spans = (span-many, span-late, span-some, needs)
 
@@ -59,26 +59,26 @@ module _ (s : Source) (i within run n : ℕ) where
   unfolding sourced
   source-zero e = rw e
 
-  pub source-far : {a : VmdkAccessType} {b : Bytes} {name : Text} {r : Mapping} → s ≡ Flat a b name → largest - within < b .0 → within < 2 ^ 64 → r ≡ refused 22 n → r ≡ sourced s i within run n
+  pub source-far : {a : VmdkAccessType} {b : Bytes} {name : Text} {z : ℕ} {r : Mapping} → s ≡ Flat a b name → z ≡ b .0 → largest - within < z → within < 2 ^ 64 → r ≡ refused 22 n → r ≡ sourced s i within run n
   unfolding sourced
-  source-far {a} {b} {name} e l f q = let g : largest < b .0 + within = omega arith in rw (e, lt-leb _ _ g, q)
+  source-far {a} {b} {name} e k l f q = let g : largest < b .0 + within = omega arith in rw (e, lt-leb _ _ g, q)
 
-  pub source-flat : {a : VmdkAccessType} {b : Bytes} {name : Text} {w : Bool} → s ≡ Flat a b name → b .0 ≤ largest - within → within < 2 ^ 64 → w ≡ writable a → record { mapping = Raw i (b .0 + within) w; run = run; looked = n } ≡ sourced s i within run n
+  pub source-flat : {a : VmdkAccessType} {b : Bytes} {name : Text} {z : ℕ} {w : Bool} → s ≡ Flat a b name → z ≡ b .0 → z ≤ largest - within → within < 2 ^ 64 → w ≡ writable a → record { mapping = Raw i (z + within) w; run = run; looked = n } ≡ sourced s i within run n
   unfolding sourced
-  source-flat {a} {b} {name} e l f q = let g : b .0 + within ≤ largest = omega arith in rw (e, le-leb _ _ g, q)
+  source-flat {a} {b} {name} e k l f q = let g : b .0 + within ≤ largest = omega arith in rw (e, le-leb _ _ g, q, k)
 
 pub ruleset sources = (source-locked, source-zero, source-far, source-flat, needs)
 
 -- a hit's row holds the offset
 module _ (h : Heading) (hit : Hit) (r : Row) (o : ℕ) where
-  pub end-after : Held hit r o → hit .found ≡ true → o ≤ r .end .0
-  end-after g c = omega (arith, g c .1)
+  pub end-after : {z : ℕ} → Held hit r o → hit .found ≡ true → z ≡ r .end .0 → o ≤ z
+  end-after g c k = omega (arith, g c .1)
 
-  pub start-before : Held hit r o → hit .found ≡ true → r .start .0 ≤ o
-  start-before g c = g c .0
+  pub start-before : {z : ℕ} → Held hit r o → hit .found ≡ true → z ≡ r .start .0 → z ≤ o
+  start-before g c k = omega (arith, g c .0)
 
-  pub found-row : hit .found ≡ true → record { heading = h; hit = hit; source = r .source; within = o - r .start .0; left = r .end .0 - o } ≡ foundBy h hit r o
-  found-row c = rw c
+  pub found-row : {a e : ℕ} → hit .found ≡ true → a ≡ r .start .0 → e ≡ r .end .0 → record { heading = h; hit = hit; source = r .source; within = o - a; left = e - o } ≡ foundBy h hit r o
+  found-row c a e = rw (c, a, e)
 
   pub found-none : hit .found ≡ false → record { heading = h; hit = hit; source = NoAccess; within = 0; left = 0 } ≡ foundBy h hit r o
   found-none c = rw c
@@ -90,27 +90,27 @@ module _ (f : Found) (o asked : ℕ) {m : Mapping} where
   unfolding answerOf
   answer-many a q = rw (lt-leb _ _ a, q)
 
-  pub answer-late : f .heading .count ≤ 128 → f .heading .size ≤ o → m ≡ ended 0 → m ≡ answerOf f o asked
+  pub answer-late : {z : ℕ} → f .heading .count ≤ 128 → z ≡ f .heading .size .0 → z ≤ o → m ≡ ended 0 → m ≡ answerOf f o asked
   unfolding answerOf
-  answer-late a b q = rw (le-leb _ _ a, le-leb _ _ b, q)
+  answer-late a k b q = rw (le-leb _ _ a, ← k, le-leb _ _ b, q)
 
-  pub answer-found : {left run : ℕ} → f .heading .count ≤ 128 → o < f .heading .size → f .hit .found ≡ true → left ≡ min (f .heading .size - o) (f .left) → run ≡ min asked left → m ≡ sourced (f .source) (f .hit .row) (f .within) run (f .hit .looked) → m ≡ answerOf f o asked
+  pub answer-found : {z left run : ℕ} → f .heading .count ≤ 128 → z ≡ f .heading .size .0 → o < z → f .hit .found ≡ true → left ≡ min (z - o) (f .left) → run ≡ min asked left → m ≡ sourced (f .source) (f .hit .row) (f .within) run (f .hit .looked) → m ≡ answerOf f o asked
   unfolding answerOf
-  answer-found a b c d e q = rw (le-leb _ _ a, lt-leb _ _ b, c, ← d, ← e, q)
+  answer-found a k b c d e q = rw (le-leb _ _ a, ← k, lt-leb _ _ b, c, ← d, ← e, q)
 
-  pub answer-none : f .heading .count ≤ 128 → o < f .heading .size → f .hit .found ≡ false → m ≡ ended (f .hit .looked) → m ≡ answerOf f o asked
+  pub answer-none : {z : ℕ} → f .heading .count ≤ 128 → z ≡ f .heading .size .0 → o < z → f .hit .found ≡ false → m ≡ ended (f .hit .looked) → m ≡ answerOf f o asked
   unfolding answerOf
-  answer-none a b c q = rw (le-leb _ _ a, lt-leb _ _ b, c, q)
+  answer-none a k b c q = rw (le-leb _ _ a, ← k, lt-leb _ _ b, c, q)
 
 pub ruleset answers = (answer-many, answer-late, answer-found, answer-none, needs)
 
 module _ (r : Row) (lo i hi o k : ℕ) {n : Next} where
-  pub next-after : r .end .0 ≤ o → n ≡ window true (i + 1) hi i k → n ≡ nextOf r lo i hi o k
+  pub next-after : {e : ℕ} → e ≡ r .end .0 → e ≤ o → n ≡ window true (i + 1) hi i k → n ≡ nextOf r lo i hi o k
   unfolding nextOf
-  next-after h q = rw (le-leb _ _ h, holds-late r o h, q)
+  next-after k l q = let h : r .end .0 ≤ o = omega arith in rw (le-leb _ _ h, holds-late r o h, q)
 
-  pub next-before : o < r .end .0 → n ≡ window (ltb o (r .start .0)) lo i i k → n ≡ nextOf r lo i hi o k
+  pub next-before : {s e : ℕ} → e ≡ r .end .0 → o < e → s ≡ r .start .0 → n ≡ window (ltb o s) lo i i k → n ≡ nextOf r lo i hi o k
   unfolding nextOf
-  next-before h q = rw (lt-leb _ _ h, ← holds-early r o h, q)
+  next-before k l m q = let h : o < r .end .0 = omega arith in rw (lt-leb _ _ h, ← holds-early r o h, ← m, q)
 
 pub ruleset nexts = (next-after, next-before, needs)

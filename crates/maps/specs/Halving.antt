@@ -19,7 +19,7 @@ use Rattle.maps.specs.Map.{Search, found, nowhere, holds, halve, sourced
 
 -- the numbers beside the rows
 abbrev pub headOf : Table → Heading
-headOf t = record { size = t .size .0; count = t .count }
+headOf t = record { size = t .size; count = t .count }
 
 -- a search's end, with k looks before it
 abbrev pub upon : ℕ → Search → Search
@@ -50,7 +50,7 @@ nextOf r lo i hi o k = pick (leb (r .end .0) o) (window (not (holds r o)) (i + 1
 
 -- how many rows are searched: none where the answer does not depend on them
 unfoldable pub spanOf : Heading → ℕ → ℕ
-spanOf h o = pick (leb (h .count) most) (pick (leb (h .size) o) 0 (h .count)) 0
+spanOf h o = pick (leb (h .count) most) (pick (leb (h .size .0) o) 0 (h .count)) 0
 
 -- where the search of a table for an offset ends
 abbrev pub endOf : Table → ℕ → Search
@@ -83,6 +83,6 @@ foundOf t o = foundBy (headOf t) (hitOf (endOf t o)) (endRow t o) o
 unfoldable pub answerOf : Found → ℕ → ℕ → Mapping
 answerOf f o asked =
     pick (leb (f .heading .count) most)
-    (pick (leb (f .heading .size) o) (ended 0)
-    (pick (f .hit .found) (sourced (f .source) (f .hit .row) (f .within) (min asked (min (f .heading .size - o) (f .left))) (f .hit .looked)) (ended (f .hit .looked))))
+    (pick (leb (f .heading .size .0) o) (ended 0)
+    (pick (f .hit .found) (sourced (f .source) (f .hit .row) (f .within) (min asked (min (f .heading .size .0 - o) (f .left))) (f .hit .looked)) (ended (f .hit .looked))))
     (refused 23 0)

@@ -1,6 +1,7 @@
 // The row search, over a table that is lent. Each function with a `&Table` is thin, and proved by hand; what decides has plain parameters.
 use tables::table::Row;
 use tables::table::Table;
+use text::sector::Bytes;
 ghost use mathlib.Core.Path.{_≡_};
 ghost use Prim.Native.Nat.{_+_, _-_, _<_, _≤_};
 ghost use lib.ListN.{getD};
@@ -9,20 +10,20 @@ ghost use Rattle.maps.specs.Map.{nowhere, middle as middleOf, halve};
 ghost use Rattle.maps.specs.Halving.{headOf, upon, packed, unpackOf, window as windowOf, nextOf};
 
 // The numbers beside the rows.
-pub struct Heading {
-    pub size: u64,
+pub(crate) struct Heading {
+    pub size: Bytes,
     pub count: usize,
 }
 
 // Where a search ended: at a row, or nowhere, and how many rows were looked at.
-pub struct Hit {
+pub(crate) struct Hit {
     pub found: bool,
     pub row: usize,
     pub looked: usize,
 }
 
 // What is left to search after a look at the row in the middle, and the answer where nothing is.
-pub struct Next {
+pub(crate) struct Next {
     pub more: bool,
     pub lo: usize,
     pub hi: usize,
@@ -39,11 +40,11 @@ pub(crate) fn row_at(t: &Table, i: usize) -> Row
 }
 
 // The numbers beside the rows. By hand.
-pub fn head(t: &Table) -> Heading
+pub(crate) fn head(t: &Table) -> Heading
     ensures { λ r. ⌜ r ≡ headOf (now (t .entry)) ⌝ }
 {
     Heading {
-        size: t.size.0,
+        size: t.size,
         count: t.count,
     }
 }
@@ -103,12 +104,12 @@ fn decide(row: Row, lo: usize, mid: usize, hi: usize, offset: u64, looked: usize
     requires { ⌜ (mid < 128) × (looked < 128) ⌝ }
     ensures { λ r. ⌜ r ≡ nextOf row lo mid hi offset looked ⌝ }
 {
-    let start = row.start.0;
-    let end = row.end.0;
-    if end <= offset {
+    let start = row.start;
+    let end = row.end;
+    if end.offset() <= offset {
         return window(true, mid + 1, hi, mid, looked);
     }
-    window(offset < start, lo, mid, mid, looked)
+    window(offset < start.offset(), lo, mid, mid, looked)
 }
 
 // The row that holds the offset, among those from lo up to hi; it calls itself on the half that is left. By hand.

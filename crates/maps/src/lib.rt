@@ -1,3 +1,6 @@
-// The row search, and mapping an offset of the disk.
-pub mod halving;
+// The row search, mapping an offset of the disk, and the walk over the disk.
+pub mod by_value;
+mod halving;
 pub mod mapping;
+mod stepping;
+pub mod walk;

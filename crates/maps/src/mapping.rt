@@ -15,7 +15,7 @@ ghost use Rattle.maps.specs.Halving.{spanOf, Held, foundBy, foundOf, ans
 
 // What a search of a table found: the numbers beside the rows, where it ended, and of the row that holds the offset its source, and how much
 // of it lies before the offset and how much from there on. Where no row does, that is no access and zeros.
-pub struct Found {
+pub(crate) struct Found {
     pub heading: Heading,
     pub hit: Hit,
     pub source: Source,
@@ -27,8 +27,9 @@ pub struct Found {
 fn span(h: Heading, offset: u64) -> usize
     ensures { λ r. ⌜ r ≡ spanOf h offset ⌝ }
 {
+    let size = h.size;
     if h.count <= 128 {
-        if offset < h.size {
+        if offset < size.offset() {
             return h.count;
         }
     }
@@ -41,15 +42,15 @@ fn as_found(heading: Heading, hit: Hit, row: Row, offset: u64) -> Found
     ensures { λ r. ⌜ r ≡ foundBy heading hit row offset ⌝ }
 {
     if hit.found {
-        let start = row.start.0;
-        let end = row.end.0;
+        let start = row.start;
+        let end = row.end;
         let source = row.source;
         return Found {
             heading,
             hit,
             source,
-            within: offset - start,
-            left: end - offset,
+            within: offset - start.offset(),
+            left: end.offset() - offset,
         };
     }
     let source = Source::NoAccess;
@@ -63,7 +64,7 @@ fn as_found(heading: Heading, hit: Hit, row: Row, offset: u64) -> Found
 }
 
 // The search of a table for an offset of the disk. By hand.
-pub fn find(t: &Table, offset: u64) -> Found
+pub(crate) fn find(t: &Table, offset: u64) -> Found
     ensures { λ r. ⌜ r ≡ foundOf (now (t .entry)) offset ⌝ }
 {
     let h = halving::head(t);
@@ -130,7 +131,7 @@ fn by_source(source: Source, row: usize, within: u64, run: u64, looked: usize) -
             }
         }
         Source::Flat(access, base, name) => {
-            let start = base.0;
+            let start = base.offset();
             if 18446744073709551615 - within < start {
                 return refuse(22, looked);
             }
@@ -146,7 +147,7 @@ fn by_source(source: Source, row: usize, within: u64, run: u64, looked: usize) -
 }
 
 // The mapping, once the search has ended.
-pub fn answer(f: Found, offset: u64, max_length: u64) -> Mapping
+pub(crate) fn answer(f: Found, offset: u64, max_length: u64) -> Mapping
     ensures { λ r. ⌜ r ≡ answerOf f offset «max_length» ⌝ }
 {
     let h = f.heading;
@@ -154,12 +155,14 @@ pub fn answer(f: Found, offset: u64, max_length: u64) -> Mapping
     if 128 < h.count {
         return refuse(23, 0);
     }
-    if h.size <= offset {
+    let size = h.size;
+    let size = size.offset();
+    if size <= offset {
         return end_of_file(0);
     }
     if hit.found {
         let source = f.source;
-        let left = least(h.size - offset, f.left);
+        let left = least(size - offset, f.left);
         let run = least(max_length, left);
         return by_source(source, hit.row, f.within, run, hit.looked);
     }

@@ -5,7 +5,7 @@ use lines::record::Record;
 use lines::record::Verdict;
 use lines::record::VmdkDesc;
 use tables::table::Table;
-use walks::by_value::Listing;
+use maps::by_value::Listing;
 ghost use Prim.Native.Nat.{_<_};
 
 // A byte as a number.
@@ -70,11 +70,11 @@ fn walk(c: &[u8], t: Table, l: Listing) {
 // The answer to a query: a map where the first number is 0, a walk otherwise.
 fn reply(c: &[u8], t: Table, what: u64, offset: u64, length: u64, places: u64) {
     if what == 0 {
-        let m = walks::by_value::mapped(t, offset, length);
+        let m = maps::by_value::mapped(t, offset, length);
         out::line(c, line::mapping(t, m));
         return;
     }
-    let l = walks::by_value::listed(t, places as usize, offset, length);
+    let l = maps::by_value::listed(t, places as usize, offset, length);
     walk(c, t, l);
 }
 

@@ -11,7 +11,7 @@ use tables::table::Source;
 use tables::table::Stop;
 use tables::table::Table;
 use tables::table::Walked;
-use walks::by_value::Listing;
+use maps::by_value::Listing;
 
 // A line: its letter, its numbers, and a text of the descriptor.
 pub struct Line {
@@ -63,10 +63,14 @@ fn row(t: Table, i: usize) -> Line {
     let n = i as u64;
     let r = t.rows[i % 128];
     let s = r.source;
+    let start = r.start;
+    let start = start.offset();
+    let end = r.end;
+    let end = end.offset();
     match s {
-        Source::NoAccess => bare(b'N', n, r.start.0, r.end.0, 0, 0),
-        Source::Zero(a) => bare(b'Z', n, r.start.0, r.end.0, writable(a), 0),
-        Source::Flat(a, from, text) => full(b'F', n, r.start.0, r.end.0, writable(a), from.0, text),
+        Source::NoAccess => bare(b'N', n, start, end, 0, 0),
+        Source::Zero(a) => bare(b'Z', n, start, end, writable(a), 0),
+        Source::Flat(a, from, text) => full(b'F', n, start, end, writable(a), from.offset(), text),
     }
 }
 
@@ -91,7 +95,8 @@ pub fn head(v: VmdkDesc, t: Table, i: usize) -> Line {
         }
         2 => {
             let text = v.create_type;
-            full(b't', t.size.0, t.count as u64, 0, 0, 0, text)
+            let size = t.size;
+            full(b't', size.offset(), t.count as u64, 0, 0, 0, text)
         }
         _ => row(t, std::num::wrapping_sub_usize(i, 3)),
     }

@@ -15,7 +15,7 @@ use denote.Struct.Laws as LL
 use borrow.Author.Tests.{le-leb, lt-leb}
 use borrow.Author.Needs.{needs}
 use Rattle.text.specs.Ranges.{pick}
-use Rattle.text.specs.Sector.{bytesOf, largest}
+use Rattle.text.specs.Sector.{bytesUpto, bytesOf, largest}
 use Rattle.text.specs.declared.sector.Bytes.{Bytes}
 use Rattle.text.specs.declared.sector.Sectors.{Sectors}
 use Rattle.text.specs.declared.sector.ByteCount.{ByteCount}
@@ -28,6 +28,7 @@ use Rattle.lines.specs.declared.record.VmdkAccessType.{VmdkAccessType}
 use Rattle.lines.specs.declared.record.VmdkParsedExtent.{VmdkParsedExtent}
 use Rattle.lines.specs.declared.record.VmdkParsedStorage.{VmdkParsedStorage}
 use Rattle.lines.specs.declared.record.VmdkParsedStorage.the-variants.{NoAccess, Zero, Flat}
+use Rattle.tables.specs.declared.table.Source.{Source}
 use Rattle.tables.specs.declared.table.Source.the-variants.{NoAccess as Locked, Zero as Zeros, Flat as File}
 use Rattle.tables.specs.declared.table.Row.{Row}
 use Rattle.tables.specs.declared.table.Built.{Built}
@@ -38,6 +39,11 @@ use Rattle.lines.proofs.record.Record.Laws as TR′
 use Rattle.lines.proofs.record.VmdkParsedExtent as TE
 use Rattle.tables.specs.Build.{noRow, Rows, rows, refused, inBytes, inSource, before, rowsFrom, built, buildOf}
 use Rattle.tables.specs.Opening.{rowOf, fileBy, openFile, openSource, sizeBy, openedOf}
+
+pub row-is : (start end : ℕ) (source : Source) {a b : Bytes} → a ≡ bytesUpto start → b ≡ bytesUpto end → record { start = a; end = b; source = source } ≡ rowOf start end source
+row-is start end source p q = rw (p, q)
+
+pub ruleset placed = (row-is, needs)
 
 module _ (a : VmdkAccessType) (name : Text) (offset : Sectors) (start end : ℕ) {c : ByteCount} (e : c ≡ bytesOf offset) where
   pub file-fits : {b : Bytes} {r : Row} → c ≡ Count b → r ≡ rowOf start end (File a b name) → Fits r ≡ openFile a name offset start end
@@ -67,13 +73,14 @@ module _ (x : VmdkParsedExtent) (start : ℕ) {c : ByteCount} (e : c ≡ bytesOf
   unfolding openedOf
   extent-large q = rw (← e, q)
 
-  pub extent-over : {b : Bytes} → c ≡ Count b → start < 2 ^ 64 → largest - start < b .0 → Refused 19 ≡ openedOf x start
-  unfolding openedOf
-  extent-over {b} q f l = let g : largest < start + b .0 = omega arith in rw (← e, q, lt-leb _ _ g)
+  module _ {b : Bytes} {z : ℕ} (q : c ≡ Count b) (k : z ≡ b .0) (f : start < 2 ^ 64) where
+    pub extent-over : largest - start < z → Refused 19 ≡ openedOf x start
+    unfolding openedOf
+    extent-over l = let g : largest < start + b .0 = omega arith in rw (← e, q, lt-leb _ _ g)
 
-  pub extent-opens : {b : Bytes} {r : Opened} → c ≡ Count b → start < 2 ^ 64 → b .0 ≤ largest - start → r ≡ openSource (x .storage) start (start + b .0) → r ≡ openedOf x start
-  unfolding openedOf
-  extent-opens {b} q f l h = let g : start + b .0 ≤ largest = omega arith in rw (← e, q, le-leb _ _ g, h)
+    pub extent-opens : {r : Opened} → z ≤ largest - start → r ≡ openSource (x .storage) start (start + z) → r ≡ openedOf x start
+    unfolding openedOf
+    extent-opens l h = let g : start + b .0 ≤ largest = omega arith in rw (← e, q, le-leb _ _ g, h, k)
 
 pub ruleset extents = (extent-large, extent-over, extent-opens, needs)
 
@@ -83,8 +90,8 @@ blank-rows q = ap (replicate 128) q
 
 pub ruleset blanks = (blank-rows, needs)
 
-pub refused-table : (number second : ℕ) {rs : List Row} → rs ≡ filled noRow [] → record { verdict = refusal number second; table = record { size = record { 0 = 0 }; count = 0; rows = rs } } ≡ built (refused number second)
-refused-table number second q = rw q
+pub refused-table : (number second : ℕ) {size : Bytes} {rs : List Row} → rs ≡ filled noRow [] → size ≡ bytesUpto 0 → record { verdict = refusal number second; table = record { size = size; count = 0; rows = rs } } ≡ built (refused number second)
+refused-table number second q k = rw (q, k)
 
 pub ruleset refusals = (refused-table, needs)
 
@@ -188,9 +195,9 @@ module _ (r : Record) where
     from-here : {o : Opened} → i < r .count → o ≡ openedOf (getD (r .extents) i noExtent) size → rowsFrom 0 0 (counted r) ≡ ahead (take i rs) (onward i (drop (suc i) (counted r)) o)
     from-here l e = h .same ∙ ap (ahead (take i rs)) (rows-at r i size l (omega (arith, h .wide, h .fits)) ∙ ap (onward i (drop (suc i) (counted r))) (sym e))
 
-    pub reach-next : {o : Opened} {row : Row} → i < r .count → o ≡ openedOf (getD (r .extents) i noExtent) size → o ≡ Fits row → Reached r (set rs i row) (row .end .0) (i + 1)
+    one-more : {o : Opened} {row : Row} → i < r .count → o ≡ openedOf (getD (r .extents) i noExtent) size → o ≡ Fits row → Reached r (set rs i row) (row .end .0) (i + 1)
     unfolding rowsAt
-    reach-next {o} {row} l e q =
+    one-more {o} {row} l e q =
         let in-rows : i < length rs = omega (arith, h .long, h .fits) in
         let next : i + 1 ≡ suc i = add-one i in
         record {
@@ -208,12 +215,15 @@ module _ (r : Record) where
         shorter : i < 128 → drop i rs ≡ getD rs i noRow ∷ drop (suc i) rs → drop (suc i) rs ≡ replicate (128 - suc i) noRow
         shorter b d = ap (drop 1) (sym d ∙ h .rest ∙ ap (λ (k : ℕ). replicate k noRow) (one-less i b))
 
+    pub reach-next : {o : Opened} {row : Row} {z : ℕ} → i < r .count → o ≡ openedOf (getD (r .extents) i noExtent) size → o ≡ Fits row → z ≡ row .end .0 → Reached r (set rs i row) z (i + 1)
+    reach-next l e q k = rw k (one-more l e q)
+
     pub reach-refused : {o : Opened} {n : ℕ} {b : Built} → i < r .count → o ≡ openedOf (getD (r .extents) i noExtent) size → o ≡ Refused n → b ≡ built (refused n i) → b ≡ built (rowsFrom 0 0 (counted r))
     reach-refused {o} {n} {b} l e q g = g ∙ ap built (sym (from-here l e ∙ ap (λ (z : Opened). ahead (take i rs) (onward i (drop (suc i) (counted r)) z)) q ∙ ahead-refused (take i rs) n i))
 
-    pub reach-end : r .count ≤ i → record { verdict = Sound; table = record { size = record { 0 = size }; count = r .count; rows = rs } } ≡ built (rowsFrom 0 0 (counted r))
+    all-reached : r .count ≤ i → record { verdict = Sound; table = record { size = bytesUpto size; count = r .count; rows = rs } } ≡ built (rowsFrom 0 0 (counted r))
     unfolding rowsAt filled
-    reach-end l =
+    all-reached l =
         let all : i ≡ r .count = omega (arith, h .some) in
         let long : length (take i rs) ≡ i = length-take-le i rs (omega (arith, h .some, h .long, h .fits)) in
         let end : rowsFrom 0 0 (counted r) ≡ rows (take i rs) size = h .same ∙ ap (λ (xs : List VmdkParsedExtent). ahead (take i rs) (rowsFrom i size xs)) (none-left r i l (omega (arith, h .wide, h .fits))) ∙ nothing-more ∙ ahead-all (take i rs) size in
@@ -221,6 +231,9 @@ module _ (r : Record) where
       where
         nothing-more : ahead (take i rs) (rowsFrom i size []) ≡ ahead (take i rs) (rows [] size)
         nothing-more = ap (ahead (take i rs)) (rows-none i size)
+
+    pub reach-end : {z : Bytes} → r .count ≤ i → z ≡ bytesUpto size → record { verdict = Sound; table = record { size = z; count = r .count; rows = rs } } ≡ built (rowsFrom 0 0 (counted r))
+    reach-end l k = rw k (all-reached l)
 
 pub ruleset builds = (reach-next, reach-refused, reach-end, needs)
 

@@ -31,8 +31,8 @@ fn row(start: u64, end: u64, source: Source) -> Row
     ensures { λ r. ⌜ r ≡ rowOf start end source ⌝ }
 {
     Row {
-        start: Bytes(start),
-        end: Bytes(end),
+        start: Bytes::upto(start),
+        end: Bytes::upto(end),
         source,
     }
 }
@@ -98,7 +98,7 @@ fn open_implicit_extent(extent: VmdkParsedExtent, in_disk_offset: u64) -> Opened
     let bytes = sectors.bytes();
     match bytes {
         ByteCount::Count(size) => {
-            let length = size.0;
+            let length = size.offset();
             if 18446744073709551615 - in_disk_offset < length {
                 return Opened::Refused(19);
             }
@@ -115,8 +115,9 @@ fn refuse(number: u8, second: usize) -> Built
     let rows = no_rows();
     let refusal = Refusal { number, second };
     let verdict = Verdict::Refused(refusal);
+    let size = Bytes::upto(0);
     let table = Table {
-        size: Bytes(0),
+        size,
         count: 0,
         rows,
     };
@@ -138,7 +139,8 @@ fn open_extents(record: Record) -> Built
         match opened {
             Opened::Fits(row) => {
                 rows[i] = row;
-                size = row.end.0;
+                let end = row.end;
+                size = end.offset();
                 i += 1;
             }
             Opened::Refused(number) => {
@@ -147,8 +149,9 @@ fn open_extents(record: Record) -> Built
         }
     }
     let verdict = Verdict::Sound;
+    let size = Bytes::upto(size);
     let table = Table {
-        size: Bytes(size),
+        size,
         count,
         rows,
     };

@@ -7,6 +7,7 @@ use Rattle.text.specs.Number.{numberOf}
 use Rattle.text.specs.declared.number.Num.{Num}
 use Rattle.text.specs.declared.number.Num.the-variants.{Value, Bad}
 use Rattle.text.specs.declared.sector.Sectors.{Sectors}
+use Rattle.text.specs.declared.sector.Bytes.{Bytes}
 use Rattle.text.specs.declared.sector.SectorCount.{SectorCount}
 use Rattle.text.specs.declared.sector.SectorCount.the-variants.{Count as Sectors·Count, Bad as Sectors·Bad}
 use Rattle.text.specs.declared.sector.ByteCount.{ByteCount}
@@ -19,6 +20,14 @@ sectorSize = 512
 -- the largest number of bytes, or of sectors, that is kept: 2^64-1
 abbrev pub largest : ℕ
 largest = 18446744073709551615
+
+-- so many sectors
+abbrev pub sectorsIn : ℕ → Sectors
+sectorsIn n = record { 0 = n }
+
+-- the bytes up to an offset
+abbrev pub bytesUpto : ℕ → Bytes
+bytesUpto offset = record { 0 = offset }
 
 -- a number as a count of sectors
 abbrev pub sectorsBy : Num → SectorCount

@@ -1,14 +1,14 @@
 // Sectors and bytes: two kinds of number, and the one way from the first to the second.
 ghost use mathlib.Core.Path.{_≡_};
-ghost use Rattle.text.specs.Sector.{sectorsOf, bytesOf};
+ghost use Rattle.text.specs.Sector.{sectorsIn, bytesUpto, sectorsOf, bytesOf};
 use crate::number::Num;
 use crate::number::number;
 
-// A number of sectors.
-pub struct Sectors(pub u64);
+// A number of sectors. The number is the kind's own: no other crate reaches it but through a function that names what becomes of it.
+pub struct Sectors(u64);
 
-// A number of bytes.
-pub struct Bytes(pub u64);
+// A number of bytes, likewise.
+pub struct Bytes(u64);
 
 // A sector count, or that a text is no number.
 pub enum SectorCount {
@@ -25,6 +25,20 @@ pub enum ByteCount {
 impl Sectors {
     // The bytes of one sector.
     pub const SIZE: u64 = 512;
+
+    // So many sectors.
+    pub fn new(n: u64) -> Sectors
+        ensures { λ r. ⌜ r ≡ sectorsIn n ⌝ }
+    {
+        Sectors(n)
+    }
+
+    // How many they are.
+    pub fn number(self) -> u64
+        ensures { λ r. ⌜ r ≡ self .0 ⌝ }
+    {
+        self.0
+    }
 
     // The sector count that a text is.
     pub fn of(t: &[u8]) -> SectorCount
@@ -46,5 +60,21 @@ impl Sectors {
             return ByteCount::TooLarge;
         }
         ByteCount::Count(Bytes(n * Sectors::SIZE))
+    }
+}
+
+impl Bytes {
+    // The bytes up to an offset.
+    pub fn upto(offset: u64) -> Bytes
+        ensures { λ r. ⌜ r ≡ bytesUpto offset ⌝ }
+    {
+        Bytes(offset)
+    }
+
+    // The offset after so many bytes.
+    pub fn offset(self) -> u64
+        ensures { λ r. ⌜ r ≡ self .0 ⌝ }
+    {
+        self.0
     }
 }

@@ -111,13 +111,13 @@ fn sectors(t: &[u8]) -> Answer {
 
 // A sector count with its bytes, or that they are too many.
 fn bytes(s: Sectors) -> Answer {
-    let n = s.0;
+    let n = s.number();
     let b = s.bytes();
     match b {
         ByteCount::Count(c) => Answer {
             tag: 1,
             a: n,
-            b: c.0,
+            b: c.offset(),
         },
         ByteCount::TooLarge => Answer { tag: 2, a: n, b: 0 },
     }

@@ -12,7 +12,7 @@ use Rattle.lines.specs.Record.{most}
 use Rattle.lines.specs.declared.record.Record.{Record}
 use Rattle.tables.specs.declared.table.Table.{Table}
 use Rattle.tables.specs.declared.table.Stop.the-variants.{More, Refused as Stopped}
-use Rattle.walks.specs.Walk.{Walk, ends, walkFrom, walkOf}
+use Rattle.maps.specs.Walk.{Walk, ends, walkFrom, walkOf}
 use Rattle.theorems.specs.Rows.{Builds}
 use Rattle.theorems.specs.Tiling.{All}
 use Rattle.theorems.specs.Continuing.{partsOf, placesIn, Continues, ContinuesWhole}

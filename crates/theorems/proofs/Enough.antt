@@ -18,7 +18,7 @@ use Rattle.tables.specs.declared.table.ShallowMapping.the-variants.{Eof, Zero, 
 use Rattle.tables.specs.declared.table.Stop.{Stop}
 use Rattle.tables.specs.declared.table.Stop.the-variants.{Done, More, Refused as Stopped}
 use Rattle.maps.specs.Map.{Search, found, nowhere, sourced, inRow, searchOf, mapOf}
-use Rattle.walks.specs.Walk.{Walk, step, walkFrom}
+use Rattle.maps.specs.Walk.{Walk, step, walkFrom}
 use Rattle.theorems.specs.Rows.{rowAt, OneRow}
 use Rattle.theorems.specs.Continuing.{goOn}
 use Rattle.text.proofs.Flat.{by-test}

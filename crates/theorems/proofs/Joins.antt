@@ -16,7 +16,7 @@ use Rattle.tables.specs.declared.table.ShallowMapping.the-variants.{Eof, Zero, 
 use Rattle.tables.specs.declared.table.Stop.{Stop}
 use Rattle.tables.specs.declared.table.Stop.the-variants.{Done, More, Refused as Stopped}
 use Rattle.maps.specs.Map.{mapOf}
-use Rattle.walks.specs.Walk.{Walk, ends, then, step, walkFrom, walkOf}
+use Rattle.maps.specs.Walk.{Walk, ends, then, step, walkFrom, walkOf}
 use Rattle.theorems.specs.Continuing.{goOn, partsOf, placesIn, longWalk}
 use Rattle.text.proofs.Flat.{by-test}
 use Rattle.theorems.proofs.Routes.{over-or-on, walk-full, walk-step}

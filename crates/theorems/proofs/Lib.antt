@@ -1,6 +1,8 @@
 pub mod BeforeLines
 pub mod Built
 pub mod Continuing
+pub mod Counted
+pub mod EmptyTables
 pub mod Encodings
 pub mod Enough
 pub mod ExtentLines
@@ -12,9 +14,12 @@ pub mod Least
 pub mod Limits
 pub mod LineFaults
 pub mod LinePlaces
+pub mod LineRows
 pub mod MapRefusals
 pub mod Maps
 pub mod Marked
+pub mod NamedCases
+pub mod NamedPlaces
 pub mod Orders
 pub mod Over
 pub mod Places
@@ -27,6 +32,7 @@ pub mod Sequences
 pub mod Shared
 pub mod Spellings
 pub mod Theorems
+pub mod TheoremsOfPlaces
 pub mod TheoremsOfReading
 pub mod TheoremsOfRefusals
 pub mod TheoremsOfText

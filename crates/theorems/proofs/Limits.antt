@@ -18,7 +18,7 @@ use Rattle.tables.specs.declared.table.Stop.{Stop}
 use Rattle.tables.specs.declared.table.Stop.the-variants.{Done, Refused as Stopped}
 use Rattle.maps.specs.Map.{mapOf}
 use Rattle.maps.specs.Place.{sizeOf, placeOf}
-use Rattle.walks.specs.Walk.{Walk, step, walkFrom}
+use Rattle.maps.specs.Walk.{Walk, step, walkFrom}
 use Rattle.theorems.specs.Tiling.{isLocked, firstLocked, noAccessFrom, FirstNoAccess, Meets}
 use Rattle.text.proofs.Flat.{by-test}
 use Rattle.theorems.proofs.Halving.{looked-eight}

@@ -23,7 +23,7 @@ use Rattle.tables.specs.declared.table.Stop.the-variants.{Done, More, Refused a
 use Rattle.tables.specs.Build.{noRow}
 use Rattle.maps.specs.Map.{Search, found, nowhere, writable, ended, refused, sourced, inRow, searchOf, mapOf}
 use Rattle.maps.specs.Place.{Place, past, locked, zeros, file, placeOf}
-use Rattle.walks.specs.Walk.{Walk, ends, then, zeroPiece, rawPiece, step, walkFrom, walkOf}
+use Rattle.maps.specs.Walk.{Walk, ends, then, zeroPiece, rawPiece, step, walkFrom, walkOf}
 use Rattle.theorems.specs.Rows.{Builds}
 use Rattle.theorems.specs.Maps.{shown}
 use Rattle.theorems.specs.Refusing.{NoAccessAt, FileOverAt, StopsWhere}

@@ -20,7 +20,7 @@ use Rattle.lines.specs.Record.{filled, counted}
 use Rattle.tables.specs.Build.{rowsFrom, buildOf}
 use Rattle.maps.specs.Map.{halve, sourced, inRow, searchOf, mapOf}
 use Rattle.maps.specs.Place.{sizeOf, placeFrom, placeOf}
-use Rattle.walks.specs.Walk.{walkFrom, walkOf}
+use Rattle.maps.specs.Walk.{walkFrom, walkOf}
 use Rattle.theorems.specs.Maps.{restOf}
 use Rattle.theorems.specs.Tiling.{firstLocked, metFrom, metBy}
 use Rattle.theorems.specs.Cases.{Case, cases}

@@ -25,7 +25,7 @@ use Rattle.tables.specs.declared.table.Stop.{Stop}
 use Rattle.tables.specs.declared.table.Stop.the-variants.{Done, More, Refused as Stopped}
 use Rattle.maps.specs.Map.{writable, mapOf}
 use Rattle.maps.specs.Place.{within, bytesIn, sizeOf, placeFrom, placeOf, Reaches, Reachable}
-use Rattle.walks.specs.Walk.{Walk, ends, then, zeroPiece, rawPiece, step, walkFrom}
+use Rattle.maps.specs.Walk.{Walk, ends, then, zeroPiece, rawPiece, step, walkFrom}
 use Rattle.theorems.specs.Maps.{restOf, shown, runAt, MapsBy}
 use Rattle.theorems.specs.Tiling.{ZeroPlain, readable, byteOf}
 use Rattle.text.proofs.Flat.{by-test, pick-same}

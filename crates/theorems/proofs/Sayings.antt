@@ -66,14 +66,14 @@ setAll d (Nothing ∷ ss) = setAll d ss
 setAll d (Extent x ∷ ss) = setAll d ss
 setAll d (Refused n ∷ ss) = setAll d ss
 
-extents-cons : (s : Said) (ss : List Said) → extentsIn (s ∷ ss) ≡ extentsIn (s ∷ []) ++ extentsIn ss
+pub extents-cons : (s : Said) (ss : List Said) → extentsIn (s ∷ ss) ≡ extentsIn (s ∷ []) ++ extentsIn ss
 unfolding extentsIn
 extents-cons Nothing ss = refl
 extents-cons (Set v) ss = refl
 extents-cons (Extent x) ss = refl
 extents-cons (Refused n) ss = refl
 
-extents-more : (s : Said) (ss : List Said) → length (extentsIn (s ∷ ss)) ≡ length (extentsIn (s ∷ [])) + length (extentsIn ss)
+pub extents-more : (s : Said) (ss : List Said) → length (extentsIn (s ∷ ss)) ≡ length (extentsIn (s ∷ [])) + length (extentsIn ss)
 extents-more s ss = rw (extents-cons s ss, length-append)
 
 refuses-cons : (s : Said) (ss : List Said) → refuses (s ∷ []) ≡ false → refuses (s ∷ ss) ≡ refuses ss

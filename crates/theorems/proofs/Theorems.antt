@@ -11,7 +11,7 @@ use Rattle.lines.specs.declared.record.Record.{Record}
 use Rattle.lines.specs.declared.record.VmdkParsedExtent.{VmdkParsedExtent}
 use Rattle.tables.specs.declared.table.Table.{Table}
 use Rattle.maps.specs.Place.{Reachable}
-use Rattle.walks.specs.Walk.{walkOf}
+use Rattle.maps.specs.Walk.{walkOf}
 use Rattle.theorems.proofs.TheoremsOfReading.{extents-in-order}
 use Rattle.theorems.specs.Rows.{Builds, InRows}
 use Rattle.theorems.specs.Looks.{Finds, FewLooks}

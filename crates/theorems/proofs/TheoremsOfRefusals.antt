@@ -18,7 +18,7 @@ use Rattle.descriptor.specs.Read.{leastBytes, sparse, readOf}
 use Rattle.tables.specs.Build.{buildOf}
 use Rattle.maps.specs.Map.{mapOf}
 use Rattle.maps.specs.Place.{sizeOf}
-use Rattle.walks.specs.Walk.{walkOf}
+use Rattle.maps.specs.Walk.{walkOf}
 use Rattle.lines.specs.declared.record.Record.{Record}
 use Rattle.lines.specs.declared.record.Verdict.the-variants.{Sound}
 use Rattle.tables.specs.declared.table.Table.{Table}

@@ -13,7 +13,7 @@ use Rattle.lines.specs.declared.record.VmdkParsedExtent.{VmdkParsedExtent}
 use Rattle.tables.specs.declared.table.Table.{Table}
 use Rattle.tables.specs.declared.table.Piece.{Piece}
 use Rattle.maps.specs.Place.{placeOf, Reachable}
-use Rattle.walks.specs.Walk.{Walk, walkFrom, walkOf}
+use Rattle.maps.specs.Walk.{Walk, walkFrom, walkOf}
 use Rattle.theorems.specs.Rows.{Builds}
 use Rattle.theorems.specs.Tiling.{Placed, Rise, metBy, Tiles}
 use Rattle.theorems.proofs.Built.{tableIn, table-laid, length-laid}

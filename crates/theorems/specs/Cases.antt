@@ -23,7 +23,7 @@ use Rattle.tables.specs.declared.table.Stop.the-variants.{Done, Refused as Stop
 use Rattle.tables.specs.declared.table.Piece.{Piece}
 use Rattle.tables.specs.Build.{noRow, buildOf}
 use Rattle.maps.specs.Map.{mapOf}
-use Rattle.walks.specs.Walk.{Walk, zeroPiece, rawPiece, walkOf}
+use Rattle.maps.specs.Walk.{Walk, zeroPiece, rawPiece, walkOf}
 use Rattle.theorems.specs.Maps.{restOf}
 use Rattle.theorems.specs.Tiling.{metBy, noAccessFrom}
 

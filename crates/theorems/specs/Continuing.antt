@@ -9,7 +9,7 @@ use Rattle.lines.specs.Record.{most}
 use Rattle.tables.specs.declared.table.Table.{Table}
 use Rattle.tables.specs.declared.table.Stop.{Stop}
 use Rattle.tables.specs.declared.table.Stop.the-variants.{Done, More, Refused as Stopped}
-use Rattle.walks.specs.Walk.{Walk, ends, walkFrom, walkOf}
+use Rattle.maps.specs.Walk.{Walk, ends, walkFrom, walkOf}
 use Rattle.theorems.specs.Tiling.{All}
 
 -- a part that stopped, and after More the parts that follow it: the pieces joined, the last one's stop and position, and the rows looked at added up

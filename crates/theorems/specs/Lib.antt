@@ -1,9 +1,12 @@
 pub mod Cases
 pub mod Continuing
+pub mod Counted
 pub mod GivenWhen
 pub mod LineWords
 pub mod Looks
 pub mod Maps
+pub mod NamedCases
+pub mod NamedPlaces
 pub mod Over
 pub mod Refusing
 pub mod Rows

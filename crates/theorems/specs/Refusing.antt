@@ -8,7 +8,7 @@ use Rattle.text.specs.Sector.{largest}
 use Rattle.lines.specs.Record.{most}
 use Rattle.lines.specs.declared.record.VmdkParsedExtent.{VmdkParsedExtent}
 use Rattle.maps.specs.Place.{locked, file, placeOf}
-use Rattle.walks.specs.Walk.{Walk}
+use Rattle.maps.specs.Walk.{Walk}
 
 -- 21: byte o of the disk lies in an extent of no access
 abbrev pub NoAccessAt : List VmdkParsedExtent → ℕ → Type 0

@@ -16,7 +16,7 @@ use Rattle.tables.specs.declared.table.PieceSource.{PieceSource}
 use Rattle.tables.specs.declared.table.PieceSource.the-variants.{Zero as Zeros, Raw as File}
 use Rattle.tables.specs.declared.table.Stop.the-variants.{Done, Refused as Stopped}
 use Rattle.maps.specs.Place.{Place, past, locked, zeros, file, bytesIn, sizeOf, placeOf}
-use Rattle.walks.specs.Walk.{Walk}
+use Rattle.maps.specs.Walk.{Walk}
 
 -- each element of a list is so
 abbrev pub All : {A : Type 0} → (A → Type 0) → List A → Type 0

@@ -37,9 +37,9 @@ module _ (d : List ℕ) {q : Read} (is : q ≡ readOf d) where
     unfolding tableIn
     table-built = ap (λ (z : Built). z .table) built-is
 
-    pub size-built : q .verdict ≡ Sound → b .verdict ≡ Sound → b .table .size .0 ≡ sizeOf d
+    pub size-built : {z : ℕ} → q .verdict ≡ Sound → b .verdict ≡ Sound → z ≡ b .table .size .0 → z ≡ sizeOf d
     unfolding sizeOf
-    size-built e f = ap (λ (t : Table). t .size .0) table-built ∙ both _ (sym (ap (λ (z : Read). z .verdict) is) ∙ e) (sym (ap (λ (z : Built). z .verdict) built-is) ∙ f)
+    size-built e f k = k ∙ ap (λ (t : Table). t .size .0) table-built ∙ both _ (sym (ap (λ (z : Read). z .verdict) is) ∙ e) (sym (ap (λ (z : Built). z .verdict) built-is) ∙ f)
 
 pub ruleset sizes = (size-unread, size-unbuilt, size-built, needs)
 

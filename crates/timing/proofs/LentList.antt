@@ -26,7 +26,7 @@ use denote.Triple.Spec.{tripleOf}
 use denote.Triple.Statement.{Contract}
 use denote.Triple.Clauses.{ensured, lasts}
 use denote.Triple.Walked.{says}
-use Rattle.walks.specs.Walk.{Walk, walkOf, walked, listed}
+use Rattle.maps.specs.Walk.{Walk, walkOf, walked, listed}
 use Rattle.tables.specs.declared.table.Piece.{Piece}
 use Rattle.tables.specs.declared.table.Table.{Table}
 use Rattle.tables.specs.declared.table.Walked.{Walked}
@@ -35,7 +35,7 @@ use Rattle.tables.proofs.table.Table as TT
 use Rattle.tables.proofs.table.Walked as TW
 use Rattle.tables.proofs.table.Walked.Laws as TW′
 use Rattle.timing.specs.Walk.{piecesIn}
-use Rattle.walks.proofs.walk.walk as walk
+use Rattle.maps.proofs.walk.walk as walk
 use Rattle.timing.proofs.walk.add_pieces as add
 
 module _ {M : Type 1} (𝓤 : URA M) (H : Heap 𝓤) (A : Atoms 𝓤) (W : Given 𝓤 H A) (mem : Memory → SProp 𝓤) (run : Routine → Fun 𝓤) where

@@ -13,9 +13,9 @@ use borrow.Author.Tests.{ltb-true, ltb-false}
 use Rattle.lines.specs.Record.{most}
 use Rattle.tables.specs.declared.table.Table.{Table}
 use Rattle.tables.specs.declared.table.Piece.{Piece}
-use Rattle.walks.specs.Walk.{Walk, walkOf, listed}
-use Rattle.walks.specs.Stepping.{noPiece}
-use Rattle.walks.specs.Listing.{noPieces}
+use Rattle.maps.specs.Walk.{Walk, walkOf, listed}
+use Rattle.maps.specs.Stepping.{noPiece}
+use Rattle.maps.specs.Listing.{noPieces}
 use Rattle.timing.specs.declared.walk.Adding.{Adding}
 use Rattle.timing.specs.declared.walk.Tour.{Tour}
 use Rattle.timing.specs.Sum.{foldOf}

@@ -5,7 +5,7 @@ use lib.Dec.{ltb}
 use Rattle.lines.specs.Record.{most}
 use Rattle.tables.specs.declared.table.Table.{Table}
 use Rattle.tables.specs.declared.table.Piece.{Piece}
-use Rattle.walks.specs.Walk.{walkOf}
+use Rattle.maps.specs.Walk.{walkOf}
 use Rattle.timing.specs.Sum.{foldOf}
 use Rattle.timing.specs.declared.walk.Adding.{Adding}
 use Rattle.timing.specs.declared.walk.Tour.{Tour}

@@ -28,7 +28,10 @@ pub extern "C" fn ours_read(descriptor: &[u8]) -> u64
             let verdict = built.verdict;
             match verdict {
                 Verdict::Refused(r) => u64::MAX,
-                Verdict::Sound => built.table.size.0,
+                Verdict::Sound => {
+                    let size = built.table.size;
+                    size.offset()
+                }
             }
         }
     }

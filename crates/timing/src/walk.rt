@@ -3,11 +3,11 @@ use crate::sum::fold;
 use tables::table::Piece;
 use tables::table::PieceSource;
 use tables::table::Table;
-use walks::walk;
+use maps::walk;
 ghost use mathlib.Core.Path.{_≡_};
 ghost use Prim.Native.Nat.{_<_, _≤_};
 ghost use lib.ListN.{length, take};
-ghost use Rattle.walks.specs.Listing.{noPieces};
+ghost use Rattle.maps.specs.Listing.{noPieces};
 ghost use Rattle.timing.specs.Walk.{pieceIn, piecesIn, addedOf, addingOf, Short, touredOf, setOut, Ready, walkSum};
 
 // Where the adding of a list's pieces stands: whether there is one more piece, its number, how many there are, and the sum so far.

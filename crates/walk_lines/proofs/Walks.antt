@@ -12,10 +12,10 @@ use Rattle.text.specs.Ascii.{ascii}
 use Rattle.lines.specs.Record.{most}
 use Rattle.lines.specs.declared.record.Refusal.{Refusal}
 use Rattle.lines.specs.declared.record.Verdict.the-variants.{Sound, Refused as Stopped}
-use Rattle.walks.specs.Walk.{Walk, walkOf, walked, listed}
-use Rattle.walks.specs.Stepping.{noPiece}
-use Rattle.walks.specs.Listing.{noPieces, listingOf}
-use Rattle.walks.specs.declared.by_value.Listing.{Listing}
+use Rattle.maps.specs.Walk.{Walk, walkOf, walked, listed}
+use Rattle.maps.specs.Stepping.{noPiece}
+use Rattle.maps.specs.Listing.{noPieces, listingOf}
+use Rattle.maps.specs.declared.by_value.Listing.{Listing}
 use Rattle.tables.specs.declared.table.Row.{Row}
 use Rattle.tables.specs.declared.table.Table.{Table}
 use Rattle.tables.specs.declared.table.Source.{Source}

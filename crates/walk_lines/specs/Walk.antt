@@ -4,7 +4,7 @@ use mathlib.Core.List.{List, [], _∷_, _++_}
 use mathlib.Core.Bool.{Bool}
 use lib.ListN.{length}
 use Rattle.text.specs.Ascii.{ascii}
-use Rattle.walks.specs.Walk.{Walk, walkOf, walked}
+use Rattle.maps.specs.Walk.{Walk, walkOf, walked}
 use Rattle.tables.specs.declared.table.Row.{Row}
 use Rattle.tables.specs.declared.table.PieceSource.{PieceSource}
 use Rattle.tables.specs.declared.table.PieceSource.the-variants.{Zero, Raw}

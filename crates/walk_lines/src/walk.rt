@@ -1,5 +1,5 @@
 // The lines of a walk.
-ghost use Rattle.walks.specs.Walk.{walkOf};
+ghost use Rattle.maps.specs.Walk.{walkOf};
 ghost use Rattle.puts.specs.Put.{Put};
 ghost use Rattle.phrases.specs.Line.{line, linesTo, nameOf};
 ghost use Rattle.walk_lines.specs.Walk.{rawWords, pieceWords, pieceLine, stopText, stopLine, walkLines, walkLinesOf};
@@ -20,7 +20,7 @@ use tables::table::Source;
 use tables::table::Stop;
 use tables::table::Table;
 use tables::table::Walked;
-use walks::by_value::listed;
+use maps::by_value::listed;
 
 // Puts a raw piece's place in its file, from its offset to the line's end.
 fn raw_piece(

@@ -19,6 +19,7 @@ ours-read-spec =
     (λ c κs. search sizes)
     (λ c. search sizes)
     (λ c. search sizes)
+    (λ c κs. search sizes)
     (λ c. search sizes)
     (λ c. search sizes)
     (λ c. search sizes))

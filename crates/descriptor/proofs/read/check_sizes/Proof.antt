@@ -26,6 +26,7 @@ check-sizes-spec =
     (λ c κs. search sizes)
     (λ c. search sizes)
     (λ c. search sizes)
+    (λ c κs. search sizes)
     (λ c. search sizes)
     (λ c κs. search sizes)
     (λ c. search sizes)

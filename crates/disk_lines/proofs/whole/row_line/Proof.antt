@@ -12,5 +12,7 @@ row-line-spec =
     (λ c κs. search rows)
     (λ c κs. search rows)
     (λ c κs. search rows)
+    (λ c κs. search rows)
+    (λ c κs. search rows)
     (λ c. search rows)
     (λ c. search rows))

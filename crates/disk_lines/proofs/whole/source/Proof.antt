@@ -15,6 +15,7 @@ source-spec =
     (λ c κs. search sources)
     (λ c. search sources)
     (λ c κs. search sources)
+    (λ c κs. search sources)
     (λ c. search sources)
     (λ c. search sources)
     (λ c. search sources)

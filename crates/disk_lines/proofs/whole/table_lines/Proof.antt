@@ -4,4 +4,11 @@ use Rattle.disk_lines.proofs.whole.table_lines.Statement.{statement}
 use Rattle.disk_lines.proofs.whole.table_lines.Tie as tie
 
 pub table-lines-spec : {M : Type 1} → statement M
-table-lines-spec = tie.close (tie.spec (λ c κs. search tables) (λ c κs. search tables) (λ c. search tables) (λ c. search tables))
+table-lines-spec =
+    tie.close
+    (tie.spec
+    (λ c κs. search tables)
+    (λ c κs. search tables)
+    (λ c κs. search tables)
+    (λ c. search tables)
+    (λ c. search tables))

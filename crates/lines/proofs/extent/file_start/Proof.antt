@@ -14,4 +14,5 @@ file-start-spec =
     (λ c κs. search fileStarts)
     (λ c. search fileStarts)
     (λ c. search fileStarts)
+    (λ c. search fileStarts)
     (λ c. search fileStarts))

@@ -8,4 +8,13 @@ use Rattle.maps.proofs.halving.decide.Lts as lts
 use Rattle.maps.proofs.halving.window.Reads as window-reads
 
 pub decide-spec : {M : Type 1} → statement M
-decide-spec = tie.close (tie.spec (λ c. search nexts) (λ c κs. search nexts) (λ c. search nexts) (λ c κs. search nexts) (λ c. search nexts))
+decide-spec =
+    tie.close
+    (tie.spec
+    (λ c κs. search nexts)
+    (λ c. search nexts)
+    (λ c κs. search nexts)
+    (λ c. search nexts)
+    (λ c κs. search nexts)
+    (λ c κs. search nexts)
+    (λ c. search nexts))

@@ -17,6 +17,7 @@ use contract.Running.{givenOf, tables, tablesOf}
 use types.Kit.{Given, ‵, _⊛_, _$_, _∵_, !, qed, by, move, keep, drop, use1, split, join, fsplit, fsplit3, fjoin, suffices, frame, done}
 use types.Run.{look, init, forget, stop, hop, fld, from, load, of-opd, and-then, no-more, assigns, returns, enter, alloc1, alloc0, params1, pass1, pass0, free1, free0}
 use types.Part.{agg, whole, sub, look-in}
+use Rattle.maps.proofs.Item.{look-raw-in}
 use sound.WpLaws.{WpFn-mono}
 use denote.RattleType.{owns}
 use denote.Laws.{Is, shows}
@@ -91,10 +92,10 @@ module _ {M : Type 1} (𝓤 : URA M) (H : Heap 𝓤) (A : Atoms 𝓤) (W : Given
         spelt ! T.the-row (Is T.the-row) (shows 𝓤 H A T.the-row) (LL.vals T.the-type T′.the-laws) (LL.tells T.the-type T′.the-laws) q′ h vs b o $ move ! (1 ∷ []) $ peeks ! T.the-row (Is T.the-row) (shows 𝓤 H A T.the-row) h (mach ∷ []) (λ g. move ! (1 ∷ 0 ∷ []) $
         -- [the table's cell, a share; what it owns; what shuts; the fractured borrow; true; what t owns; true; _3; …; _2; …; _1; …; _0; …]
         let owed = LL.owed T.the-type T′.the-laws h (mach ∷ []) g in
-        let size : h .size .0 < 2 ^ 64 = LL.owed B.the-type B′.the-laws (h .size) _ (owed .0) .0 .1 in
+        let typed-size = LL.lawful B.the-type B′.the-laws 𝓤 H A W .typed (h .size) _ (owed .0) .0 in
         let count : h .count < 2 ^ 64 = owed .1 .0 .1 in
-        let is : Is R.the-row (headOf h) (v ∷ []) = LL.owes R.the-type R′.the-laws (headOf h) ((refl, size), ((refl, count), tt)) in
-        assigns ! (of-opd ! (load ! (from ! (hop ! (look ! 11 refl) (fld ! refl (fld ! refl (stop !))))) (look-in ! 0 (sub ! 0 refl (sub ! 0 refl (whole !)))))) (from ! (stop !)) (init ! 9 refl (tt, record { fits = size })) $
+        let is : Is R.the-row (headOf h) (v ∷ []) = LL.owes R.the-type R′.the-laws (headOf h) (owed .0, ((refl, count), tt)) in
+        assigns ! (of-opd ! (load ! (from ! (hop ! (look ! 11 refl) (fld ! refl (stop !)))) (look-raw-in ! 0 (sub ! 0 refl (whole !))))) (from ! (stop !)) (init ! 9 refl typed-size) $
         assigns ! (of-opd ! (load ! (from ! (hop ! (look ! 11 refl) (fld ! refl (stop !)))) (look-in ! 0 (sub ! 1 refl (whole !))))) (from ! (stop !)) (init ! 7 refl (tt, record { fits = count })) $
         assigns ! (agg ! (and-then ! (load ! (from ! (stop !)) (look ! 9 refl)) (and-then ! (load ! (from ! (stop !)) (look ! 7 refl)) (no-more !)))) (from ! (stop !)) (init ! 13 refl (LL.lawful R.the-type R′.the-laws 𝓤 H A W .typed (headOf h) _ is .0)) $
         shuts ! tt T.the-row q′ h (mach ∷ []) b o $

@@ -10,7 +10,8 @@ answer-spec =
     tie.close
     (tie.spec
     (λ c κs. search answers)
-    (λ c. answer-many _ _ _ (omega arith) (c .refuse .ensures))
+    (λ c. search answers)
+    (λ c κs. search answers)
     (λ c κs. search answers)
     (λ c. search answers)
     (λ c. search answers)

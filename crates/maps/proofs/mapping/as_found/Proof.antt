@@ -8,7 +8,9 @@ pub as-found-spec : {M : Type 1} → statement M
 as-found-spec =
     tie.close
     (tie.spec
+    (λ c κs. search founds)
     (λ c. search founds)
+    (λ c κs. search founds)
     (λ c. search founds)
     (λ c. search founds)
     (λ c. search founds))

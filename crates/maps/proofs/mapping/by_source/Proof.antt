@@ -16,6 +16,7 @@ by-source-spec =
     (λ c κs. search sources)
     (λ c. search sources)
     (λ c. search sources)
+    (λ c κs. search sources)
     (λ c. search sources)
     (λ c κs. search sources)
     (λ c. search sources)

@@ -7,4 +7,10 @@ use Rattle.maps.proofs.mapping.span.Reads as reads
 use Rattle.maps.proofs.mapping.span.Lts as lts
 
 pub span-spec : {M : Type 1} → statement M
-span-spec = tie.close (tie.spec (λ c. search spans) (λ c. search spans) (λ c. search spans))
+span-spec =
+    tie.close
+    (tie.spec
+    (λ c κs. search spans)
+    (λ c. search spans)
+    (λ c. search spans)
+    (λ c. search spans))

@@ -14,6 +14,7 @@ open-implicit-extent-spec =
     (tie.spec
     (λ c κs. search extents)
     (λ c. search extents)
+    (λ c κs. search extents)
     (λ c. search extents)
     (λ c. search extents)
     (λ c. search extents)

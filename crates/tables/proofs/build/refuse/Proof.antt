@@ -8,4 +8,9 @@ use Rattle.tables.proofs.build.refuse.Lts as lts
 use Rattle.tables.proofs.build.no_rows.Reads as no-rows-reads
 
 pub refuse-spec : {M : Type 1} → statement M
-refuse-spec = tie.close (tie.spec (λ c κs. search refusals) (λ c. search refusals))
+refuse-spec =
+    tie.close
+    (tie.spec
+    (λ c κs. search refusals)
+    (λ c κs. search refusals)
+    (λ c. search refusals))

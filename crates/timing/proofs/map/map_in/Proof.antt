@@ -38,7 +38,7 @@ use Rattle.timing.specs.Map.{isAscending, mapSum}
 use Rattle.tables.proofs.table.Table as TT
 use Rattle.tables.proofs.table.Table.Laws as TT′
 use Rattle.maps.proofs.Held.{alive-one, one-alive, own-first, asks-held, answers-held}
-use Rattle.walks.proofs.LentTable.{Lends, Kept, Cell, lends-table, table-back}
+use Rattle.maps.proofs.LentTable.{Lends, Kept, Cell, lends-table, table-back}
 use Rattle.timing.proofs.map.many as many
 use Rattle.timing.proofs.map.many.Symbol as many-def
 use Rattle.timing.proofs.map.many.Symbol.{name as #many}

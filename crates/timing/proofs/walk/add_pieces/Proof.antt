@@ -46,7 +46,7 @@ use denote.Triple.Table.{entered, cited}
 use denote.Triple.Walked.{says, needs, Stays, stay-slice, stay-none, walkOf as walkedOf, goes-slice, goes-none, Walks, ends-at, walked as walkedᴹ, walk-meets}
 use denote.Exit.{yes}
 use denote.Signature.{plain}
-use Rattle.walks.specs.Stepping.{noPiece}
+use Rattle.maps.specs.Stepping.{noPiece}
 use Rattle.tables.specs.declared.table.Piece.{Piece}
 use Rattle.timing.specs.Walk.{piecesIn, addingOf, addedOf, Short}
 use Rattle.timing.specs.declared.walk.Adding.{Adding}

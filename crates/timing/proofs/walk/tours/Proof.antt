@@ -45,8 +45,8 @@ use denote.Triple.Table.{entered, cited}
 use denote.Triple.Walked.{says, Stays, stay-none, stay-none-ref, walkOf as walkedOf, goes-none, goes-none-ref, Walks as Walksᴹ, ends-at, walked as walkedᴹ, walk-meets}
 use denote.Exit.{yes}
 use denote.Signature.{plain}
-use Rattle.walks.specs.Walk.{Walk, walkOf, walked, listed}
-use Rattle.walks.specs.Listing.{noPieces}
+use Rattle.maps.specs.Walk.{Walk, walkOf, walked, listed}
+use Rattle.maps.specs.Listing.{noPieces}
 use Rattle.tables.specs.declared.table.Table.{Table}
 use Rattle.tables.specs.declared.table.Piece.{Piece}
 use Rattle.timing.specs.Walk.{piecesIn, touredOf, setOut, Ready, walkSum}
@@ -60,7 +60,7 @@ use Rattle.tables.proofs.table.Walked.Laws as TW′
 use Rattle.timing.proofs.walk.Tour as TK
 use Rattle.timing.proofs.walk.Tour.Laws as TK′
 use Rattle.maps.proofs.Plain.{asks, answers}
-use Rattle.walks.proofs.Local.{lends-array, array-back}
+use Rattle.maps.proofs.Local.{lends-array, array-back}
 use Rattle.timing.proofs.LentList.{Walks, to-walk, goes, comes, Adds, to-add, goes-add, comes-add}
 use Rattle.timing.proofs.Turns.{near}
 use Rattle.timing.proofs.Tours.{blanks-long, Going, first-going, turn-going, going-ready, sumFrom, sum-turn, sum-done, written-fits, tour-adds}
@@ -80,9 +80,9 @@ use Rattle.timing.proofs.walk.tour_sum as tour-sum
 use Rattle.timing.proofs.walk.tour_sum.Symbol as tour-sum-def
 use Rattle.timing.proofs.walk.tour_sum.Symbol.{name as #tour-sum}
 use Rattle.timing.proofs.walk.tour_sum.Met as tour-sum-thm
-use Rattle.walks.proofs.walk.walk.Symbol as walk-def
-use Rattle.walks.proofs.walk.walk.Symbol.{name as #walk}
-use Rattle.walks.proofs.walk.walk.Met as walk-thm
+use Rattle.maps.proofs.walk.walk.Symbol as walk-def
+use Rattle.maps.proofs.walk.walk.Symbol.{name as #walk}
+use Rattle.maps.proofs.walk.walk.Met as walk-thm
 use Rattle.timing.proofs.walk.add_pieces.Symbol as add-def
 use Rattle.timing.proofs.walk.add_pieces.Symbol.{name as #add}
 use Rattle.timing.proofs.walk.add_pieces.Met as add-thm
@@ -380,7 +380,7 @@ tours-spec 𝓤 H 𝓜 𝓖 𝓡 =
     entered 𝓤 H (tripleOf 𝓤 H (𝓖 .A) self.signature (self.spec 𝓤 H (𝓖 .A) (𝓜 .mem) (𝓡 .run)))
     (tables 𝓤 H 𝓜 𝓡 code.env .C) (tables 𝓤 H 𝓜 𝓡 code.env .Λ) #tours code.function (code.unfolded 𝓤 H 𝓜 𝓡)
     (meets 𝓤 H (𝓖 .A) (givenOf 𝓤 H 𝓜 𝓖) (𝓜 .mem) (𝓡 .run) (tablesOf 𝓤 H 𝓜 (tables 𝓤 H 𝓜 𝓡 code.env))
-    (cited 𝓤 H (Walks 𝓤 H (𝓖 .A) (givenOf 𝓤 H 𝓜 𝓖) (𝓜 .mem) (𝓡 .run)) 𝓜 𝓡 code.env #walk walk-def.routine code.calls-walks·walk·walk (walk-thm.met 𝓤 H 𝓜 𝓖 𝓡))
+    (cited 𝓤 H (Walks 𝓤 H (𝓖 .A) (givenOf 𝓤 H 𝓜 𝓖) (𝓜 .mem) (𝓡 .run)) 𝓜 𝓡 code.env #walk walk-def.routine code.calls-maps·walk·walk (walk-thm.met 𝓤 H 𝓜 𝓖 𝓡))
     (cited 𝓤 H (Adds 𝓤 H (𝓖 .A) (givenOf 𝓤 H 𝓜 𝓖) (𝓜 .mem) (𝓡 .run)) 𝓜 𝓡 code.env #add add-def.routine code.calls-timing·walk·add-pieces (add-thm.met 𝓤 H 𝓜 𝓖 𝓡))
     (cited 𝓤 H (Blanks 𝓤 H (𝓖 .A) (𝓜 .mem) (𝓡 .run)) 𝓜 𝓡 code.env #blanks blanks-def.routine code.calls-timing·walk·blanks (blanks-thm.met 𝓤 H 𝓜 𝓖 𝓡))
     (cited 𝓤 H (SetOut 𝓤 H (𝓖 .A) (𝓜 .mem) (𝓡 .run)) 𝓜 𝓡 code.env #set-out set-out-def.routine code.calls-timing·walk·set-out (set-out-thm.met 𝓤 H 𝓜 𝓖 𝓡))

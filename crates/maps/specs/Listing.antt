@@ -1,0 +1,23 @@
+-- The walk into a list of 128 blank places: what it answers, and the list that it leaves.
+use Prim.Native.Nat.{ℕ, min}
+use mathlib.Core.List.{List}
+use lib.ListN.{replicate}
+use Rattle.lines.specs.Record.{most}
+use Rattle.tables.specs.declared.table.Table.{Table}
+use Rattle.tables.specs.declared.table.Piece.{Piece}
+use Rattle.tables.specs.declared.table.Walked.{Walked}
+use Rattle.maps.specs.declared.by_value.Listing.{Listing}
+use Rattle.maps.specs.Walk.{walkOf, walked, listed}
+use Rattle.maps.specs.Stepping.{noPiece}
+
+-- 128 blank places
+unfoldable pub noPieces : List Piece
+noPieces = replicate most noPiece
+
+-- what a walk did, with its pieces
+abbrev pub listingBy : Walked → List Piece → Listing
+listingBy w list = record { walked = w; pieces = list }
+
+-- the walk with room for so many pieces, at most 128
+abbrev pub listingOf : Table → ℕ → ℕ → ℕ → Listing
+listingOf t places pos left = listingBy (walked (walkOf t (min places most) pos left)) (listed (walkOf t (min places most) pos left) noPieces)

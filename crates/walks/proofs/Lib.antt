@@ -1,9 +1,0 @@
-pub mod Again
-pub mod Steps
-pub mod Put
-pub mod Runs
-pub mod Marks
-pub mod Lent
-pub mod Local
-pub mod LentTable
-pub mod Listings
