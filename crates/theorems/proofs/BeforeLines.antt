@@ -38,7 +38,7 @@ by-line-from t n k b e h =
 
 -- 1, 2 or 3 is answered with what its test found
 module _ (t : List ℕ) (n k : ℕ) (h : n ≤ 3) (e : readOf t .verdict ≡ refusal n k) where
-  by-bytes : {C : Type 0} → (n ≡ 1 → k ≡ 0 → length t < leastBytes → C) → (n ≡ 2 → k ≡ 0 → mostBytes < length t → C) → (n ≡ 3 → k ≡ 0 → leastBytes ≤ length t → length t ≤ mostBytes → begins t sparse ≡ true → C) → C
+  pub by-bytes : {C : Type 0} → (n ≡ 1 → k ≡ 0 → length t < leastBytes → C) → (n ≡ 2 → k ≡ 0 → mostBytes < length t → C) → (n ≡ 3 → k ≡ 0 → leastBytes ≤ length t → length t ≤ mostBytes → begins t sparse ≡ true → C) → C
   unfolding readOf
   by-bytes f g j =
       by-test (ltb (length t) leastBytes)

@@ -60,12 +60,12 @@ module _ (r : Record) (t : Table) (b : Builds r t) (o asked : ℕ) where
   pub map-over : (mapOf t o asked .mapping ≡ Refused 22) ↔ FileOverAt (counted r) o
   map-over = rw (built-maps r t b o asked .mapping) (shown-over (placeOf (counted r) o))
 
--- ---- 23 is no row's
+-- ---- a row's refusal is 21 or 22
 abbrev Fair : ShallowMapping → Type 0
 Fair Eof = Unit {0}
 Fair (Zero i) = Unit {0}
 Fair (Raw i at w) = Unit {0}
-Fair (Refused n) = n ≤ 22
+Fair (Refused n) = (21 ≤ n) × (n ≤ 22)
 
 -- and a run is at most what was asked
 abbrev Fine : ℕ → Mapping → Type 0
@@ -102,10 +102,16 @@ module _ (t : Table) (o asked : ℕ) where
   pub map-counted : (mapOf t o asked .mapping ≡ Refused 23) ↔ (most < t .count)
   map-counted = (
     λ e. by-test (leb (t .count) most)
-        (λ h. let f : 23 ≤ 22 = subst Fair e (map-few (leb-true _ _ h) .0) in absurd (omega arith))
+        (λ h. let f : (21 ≤ 23) × (23 ≤ 22) = subst Fair e (map-few (leb-true _ _ h) .0) in absurd (omega arith))
         (λ h. leb-false _ _ h),
     λ h. ap (λ (m : Mapping). m .mapping) (map-many h),
   )
+
+  pub map-numbers : (n : ℕ) → mapOf t o asked .mapping ≡ Refused n → (21 ≤ n) × (n ≤ 23)
+  map-numbers n e =
+      by-test (leb (t .count) most)
+      (λ h. let f : (21 ≤ n) × (n ≤ 22) = subst Fair e (map-few (leb-true _ _ h) .0) in omega arith)
+      (λ h. let g : Refused 23 ≡ Refused n = sym (map-counted .1 (leb-false _ _ h)) ∙ e in let q : 23 ≡ n = cc in omega arith)
 
 -- ---- the walk
 -- a walk up to a place, with room for some pieces, stands at a mapping that is refused with n
@@ -198,6 +204,14 @@ module _ (t : Table) (places start long : ℕ) where
         (λ e. leb-false _ _ e),
     λ h. ap (λ (w : Walk). w .stop) (walk-many h),
   )
+
+  pub walk-numbers : (n : ℕ) → walk .stop ≡ Stopped n → (21 ≤ n) × (n ≤ 23)
+  walk-numbers n q =
+      by-test (leb (t .count) most)
+      (λ e. let c = leb-true _ _ e in
+      let m = due t n (min places most) start long (start + long) c refl .0 (rw (walk-few c) at q) in
+      map-numbers t _ _ n (m .meets))
+      (λ e. let g : Stopped 23 ≡ Stopped n = sym (walk-counted .1 (leb-false _ _ e)) ∙ q in let z : 23 ≡ n = cc in omega arith)
 
 -- with another way to say how the position is
 stops-map : {P Q : ℕ → Type 0} {places start long : ℕ} (w : Walk) → ((o : ℕ) → P o ↔ Q o) → StopsWhere P places start long w ↔ StopsWhere Q places start long w

@@ -4,7 +4,7 @@ use Prim.Native.Nat.{ℕ, zero, suc, _+_, _*_, _≤_, _<_}
 use native.Mathlib.Omega.{arith}
 use native.Mathlib.Nat.{zero-add}
 use mathlib.Core.List.{List, [], _∷_}
-use mathlib.Core.Logic.{_↔_}
+use mathlib.Core.Logic.{_↔_, _⊎_, inl, inr}
 use mathlib.Core.Bool.{Bool, true, false}
 use mathlib.Core.Path.{_≡_, refl, sym, ap, subst, _∙_}
 use lib.ListN.{length, take, getD}
@@ -30,6 +30,7 @@ use Rattle.theorems.specs.Statements.{ByLine, sayingsOf, extentsIn, last
 use Rattle.theorems.specs.Over.{SoundLines, SizeOver, SumOver, StartFits, FlatOver, StartOver, FirstOver, StartsFit}
 use Rattle.theorems.proofs.Sayings.{From, from-answer, from-more, setAll, never}
 use Rattle.theorems.proofs.Verdicts.{late, lines-sound, lines-checked, accepted-lines}
+use Rattle.theorems.proofs.BeforeLines.{by-bytes}
 use Rattle.theorems.proofs.Versions.{version-set, last-refused}
 
 -- what an extent can have above 2^64-1, and the number of the refusal
@@ -56,6 +57,11 @@ number-tells : (e : Excess) → excessOf (numberOf e) ≡ e
 number-tells size = refl
 number-tells sum = refl
 number-tells start = refl
+
+excess-in : (e : Excess) → (18 ≤ numberOf e) × (numberOf e ≤ 20)
+excess-in size = omega arith
+excess-in sum = omega arith
+excess-in start = omega arith
 
 -- ---- one extent, where a test says of its source whether the file start fits
 module _ (test : VmdkParsedStorage → Bool) where
@@ -199,13 +205,13 @@ unread-kept : (xs : List VmdkParsedExtent) → Kept unread xs
 unread-kept [] = tt
 unread-kept (x ∷ xs) = (refl, unread-kept xs)
 
-pub sizes-first : (xs : List VmdkParsedExtent) (e : Excess) (i : ℕ) → (sizesFrom 0 0 xs ≡ refusal (numberOf e) i) ↔ FirstOver (OverIf unread e) xs i
+sizes-first : (xs : List VmdkParsedExtent) (e : Excess) (i : ℕ) → (sizesFrom 0 0 xs ≡ refusal (numberOf e) i) ↔ FirstOver (OverIf unread e) xs i
 sizes-first xs e i = (
   λ q. scan-first unread xs e i .0 (sym (sizes-scan 0 0 xs) ∙ q) .1,
   λ f. sizes-scan 0 0 xs ∙ scan-first unread xs e i .1 (unread-kept (take i xs), f),
 )
 
-pub sizes-none : (xs : List VmdkParsedExtent) → (sizesFrom 0 0 xs ≡ Sound) ↔ (sizeOf xs ≤ largest)
+sizes-none : (xs : List VmdkParsedExtent) → (sizesFrom 0 0 xs ≡ Sound) ↔ (sizeOf xs ≤ largest)
 sizes-none xs = (
   λ q. scan-none unread xs .0 (sym (sizes-scan 0 0 xs) ∙ q) .0,
   λ h. sizes-scan 0 0 xs ∙ scan-none unread xs .1 (h, unread-kept xs),
@@ -265,14 +271,14 @@ module _ (d : List ℕ) where
   abbrev said : List VmdkParsedExtent
   said = extentsIn (sayingsOf d)
 
-  pub lines-sizes : SoundLines d → readOf d .verdict ≡ sizesFrom 0 0 said
+  lines-sizes : SoundLines d → readOf d .verdict ≡ sizesFrom 0 0 said
   unfolding checked
   lines-sizes w =
       let v : within 1 3 (setAll noDesc (sayingsOf d) .version) ≡ true = rw (version-set noDesc (sayingsOf d)) (w .2) in
       ap (λ (x : Read). x .verdict) (lines-checked d (w .0) (w .1)) ∙ rw v (from-answer (sizesFrom 0 0 said) (setAll noDesc (sayingsOf d)) said)
 
   -- so it is if it is accepted, or refused with a number from 18 on
-  pub sound-lines : From 18 (readOf d .verdict) → ByLine d → SoundLines d
+  sound-lines : From 18 (readOf d .verdict) → ByLine d → SoundLines d
   sound-lines f b =
       let a = lines-sound d b (from-more (readOf d .verdict) f) in (
         b,
@@ -283,16 +289,31 @@ module _ (d : List ℕ) where
 
   pub read-over : (e : Excess) (i : ℕ) → (readOf d .verdict ≡ refusal (numberOf e) i) ↔ (SoundLines d × FirstOver (OverIf unread e) said i)
   read-over e i = (
-    λ q. let h : 18 ≤ numberOf e = from-18 e in
-        let w = sound-lines (rw q h) (late d (numberOf e) i (omega arith) q) in
+    λ q. let h = excess-in e in
+        let w = sound-lines (rw q (h .0)) (late d (numberOf e) i (omega arith) q) in
         (w, sizes-first said e i .0 (sym (lines-sizes w) ∙ q)),
     λ w. lines-sizes (w .0) ∙ sizes-first said e i .1 (w .1),
   )
+
+  -- no other number is answered
+  after-few : (n k : ℕ) → 18 ≤ n → readOf d .verdict ≡ refusal n k → n ≤ 19
+  after-few n k h q =
+      let w = sound-lines (rw q h) (late d n k (omega arith) q) in
+      let f = scan-out unread 0 0 said n k (omega arith) (sym (sizes-scan 0 0 said) ∙ sym (lines-sizes w) ∙ q) in
+      few (f .excess) _ _ (f .number) (f .over)
     where
-      from-18 : (e : Excess) → 18 ≤ numberOf e
-      from-18 size = omega arith
-      from-18 sum = omega arith
-      from-18 start = omega arith
+      few : (e : Excess) (s : ℕ) (x : VmdkParsedExtent) → numberOf e ≡ n → OverIf unread e s x → n ≤ 19
+      few size s x z o = omega arith
+      few sum s x z o = omega arith
+      few start s x z o = let g : true ≡ false = o .1 in let y : _≡_ {A = ℕ} 0 1 = cc in absurd (omega arith)
+
+  pub read-few : (n k : ℕ) → readOf d .verdict ≡ refusal n k → (1 ≤ n) × (n ≤ 19)
+  read-few n k q =
+      by-test (leb n 3)
+      (λ e. by-bytes d n k (leb-true _ _ e) q (λ z y h. omega arith) (λ z y h. omega arith) (λ z y a b c. omega arith))
+      (λ e. let h = leb-false n 3 e in
+      by-test (leb n 17) (λ f. let g = leb-true n 17 f in omega arith)
+      (λ f. let g = leb-false n 17 f in (omega arith, after-few n k (omega arith) q)))
 
   pub read-sound : (readOf d .verdict ≡ Sound) ↔ (SoundLines d × (sizeOf said ≤ largest))
   read-sound = (
@@ -301,7 +322,7 @@ module _ (d : List ℕ) where
   )
 
 module _ (r : Record) where
-  pub build-by : {C : Type 0} → (r .count ≤ most → buildOf r .verdict ≡ scan fits 0 0 (counted r) → C) → (most < r .count → buildOf r .verdict ≡ refusal 23 0 → C) → C
+  build-by : {C : Type 0} → (r .count ≤ most → buildOf r .verdict ≡ scan fits 0 0 (counted r) → C) → (most < r .count → buildOf r .verdict ≡ refusal 23 0 → C) → C
   unfolding buildOf
   build-by f g =
       by-test (leb (r .count) most) (λ e. f (leb-true _ _ e) (rw e (rows-scan 0 0 (counted r)))) (λ e. g (leb-false _ _ e) (rw e))
@@ -313,7 +334,7 @@ module _ (r : Record) where
         λ w. b ∙ scan-first fits (counted r) e i .1 (fits-kept (take i (counted r)) .1 (w .1), over-map (counted r) i (fits-by e) (w .2)),
       ))
       (λ c b. (
-        λ q. let h = never (numberOf e) i 23 0 (sym b ∙ q) in absurd (off e (h .0)),
+        λ q. absurd (omega (arith, excess-in e, never (numberOf e) i 23 0 (sym b ∙ q) .0)),
         λ w. let h = w .0 in absurd (omega arith),
       ))
     where
@@ -327,11 +348,6 @@ module _ (r : Record) where
       fits-by sum s x h = h
       fits-by start s x h = (h .0, fits-false (x .storage) .1 (h .1))
 
-      off : (e : Excess) → 23 ≡ numberOf e → ⊥
-      off size h = omega arith
-      off sum h = omega arith
-      off start h = omega arith
-
   pub build-sound : (buildOf r .verdict ≡ Sound) ↔ ((r .count ≤ most) × (sizeOf (counted r) ≤ largest) × StartsFit (counted r))
   build-sound = build-by
       (λ c b. (
@@ -343,15 +359,15 @@ module _ (r : Record) where
         λ w. let h = w .0 in absurd (omega arith),
       ))
 
+  pub build-few : (n i : ℕ) → buildOf r .verdict ≡ refusal n i → ((18 ≤ n) × (n ≤ 20)) ⊎ (n ≡ 23)
+  build-few n i q = build-by
+      (λ c b. let f = scan-out fits 0 0 (counted r) n i (omega arith) (sym b ∙ q) in inl (omega (arith, excess-in (f .excess), f .number)))
+      (λ c b. inr (sym (never n i 23 0 (sym b ∙ q) .0)))
+
   pub build-counted : (k : ℕ) → (buildOf r .verdict ≡ refusal 23 k) ↔ ((most < r .count) × (k ≡ 0))
   build-counted k = build-by
       (λ c b. (
-        λ q. let f = scan-out fits 0 0 (counted r) 23 k (omega arith) (sym b ∙ q) in absurd (few (f .excess) (f .number)),
+        λ q. let f = scan-out fits 0 0 (counted r) 23 k (omega arith) (sym b ∙ q) in absurd (omega (arith, excess-in (f .excess), f .number)),
         λ w. let h = w .0 in absurd (omega arith),
       ))
       (λ c b. (λ q. (c, sym (never 23 k 23 0 (sym b ∙ q) .1)), λ w. rw (w .1) b))
-    where
-      few : (e : Excess) → numberOf e ≡ 23 → ⊥
-      few size h = omega arith
-      few sum h = omega arith
-      few start h = omega arith

@@ -2,7 +2,7 @@
 -- citing the laws of its subject; specs/LineWords.antt, GivenWhen.antt, Over.antt and Refusing.antt have the words. 4 is in TheoremsOfReading.antt.
 use Prim.Native.Nat.{ℕ, _+_, _-_, _≤_, _<_}
 use mathlib.Core.List.{List}
-use mathlib.Core.Logic.{_↔_}
+use mathlib.Core.Logic.{_↔_, _⊎_}
 use mathlib.Core.Bool.{true, false}
 use mathlib.Core.Path.{_≡_}
 use lib.ListN.{length, take}
@@ -34,8 +34,8 @@ use Rattle.theorems.proofs.BeforeLines.{too-few, too-many, sparse-bytes
 use Rattle.theorems.proofs.LinePlaces.{lies}
 use Rattle.theorems.proofs.LineFaults.{line-given, extent-exactly, fault-first, extents-full}
 use Rattle.theorems.proofs.Versions.{last-refused}
-use Rattle.theorems.proofs.Over.{size, sum, start, read-over, read-sound, build-over, build-sound, build-counted}
-use Rattle.theorems.proofs.MapRefusals.{map-locked, map-over, map-counted, walk-met, walk-locked, walk-file-over, walk-counted}
+use Rattle.theorems.proofs.Over.{size, sum, start, read-over, read-few, read-sound, build-over, build-sound, build-few, build-counted}
+use Rattle.theorems.proofs.MapRefusals.{map-locked, map-over, map-counted, map-numbers, walk-met, walk-locked, walk-file-over, walk-counted, walk-numbers}
 
 -- ---- before the lines
 -- 1: fewer than 4 bytes.
@@ -134,3 +134,20 @@ walk-22 = walk-file-over
 -- 23, of any table: a count above the table's room, even where nothing is left or the list has no place.
 pub walk-23 : (t : Table) (places begin long : ℕ) → (walkOf t places begin long .stop ≡ Stopped 23) ↔ (most < t .count)
 walk-23 = walk-counted
+
+-- ---- no other number
+-- Reading gives 1 to 19 only, ..
+pub reading-numbers : (d : List ℕ) (n k : ℕ) → readOf d .verdict ≡ refusal n k → (1 ≤ n) × (n ≤ 19)
+reading-numbers = read-few
+
+-- .. building 18 to 20 and 23, ..
+pub building-numbers : (r : Record) (n i : ℕ) → buildOf r .verdict ≡ refusal n i → ((18 ≤ n) × (n ≤ 20)) ⊎ (n ≡ 23)
+building-numbers = build-few
+
+-- .. mapping 21 to 23, on any table, ..
+pub mapping-numbers : (t : Table) (o asked n : ℕ) → mapOf t o asked .mapping ≡ Refused n → (21 ≤ n) × (n ≤ 23)
+mapping-numbers = map-numbers
+
+-- .. and so does the walk.
+pub walking-numbers : (t : Table) (places begin long n : ℕ) → walkOf t places begin long .stop ≡ Stopped n → (21 ≤ n) × (n ≤ 23)
+walking-numbers = walk-numbers
