@@ -1,3 +1,4 @@
+pub mod BeforeLines
 pub mod Built
 pub mod Continuing
 pub mod Counted
@@ -9,16 +10,21 @@ pub mod ExtentLines
 pub mod Fits
 pub mod Halving
 pub mod Joins
+pub mod KeyLines
+pub mod LastValues
 pub mod Least
 pub mod Limits
+pub mod LineFaults
 pub mod LinePlaces
 pub mod LineRows
+pub mod MapRefusals
 pub mod Maps
 pub mod Marked
 pub mod NameSums
 pub mod NamedCases
 pub mod NamedPlaces
 pub mod Orders
+pub mod Over
 pub mod Places
 pub mod RefusalNumbers
 pub mod Refusals
@@ -34,8 +40,10 @@ pub mod Spellings
 pub mod Theorems
 pub mod TheoremsOfPlaces
 pub mod TheoremsOfReading
+pub mod TheoremsOfRefusals
 pub mod TheoremsOfReport
 pub mod TheoremsOfText
+pub mod TheoremsOfValues
 pub mod Tiles
 pub mod Tiling
 pub mod Totals

@@ -67,13 +67,16 @@ module _ (d : List ℕ) (p : ℕ) (l : List ℕ) (i : Lies d p l) (a e : ℕ) (h
   part-lies = let q : length (part l a e) ≡ e - a = simp (length-take, length-drop) (omega arith) in rw q part-bytes
 
 -- ---- a text that is kept
-kept-bytes : (d : List ℕ) (p : ℕ) (v : List ℕ) (r : Trimmed) → trimOf v ≡ r → Lies d p v → textIn d (keptOf p v) ≡ trimmed v
-unfolding keptOf keptAt trimmed
-kept-bytes d p v (Range a e) q i =
-    let w = trim-within v q in
+pub kept-at : (d : List ℕ) (p : ℕ) (v : List ℕ) → Lies d p v → (a e : ℕ) → a ≤ e → e ≤ length v → textIn d (keptAt p a e) ≡ part v a e
+unfolding keptAt
+kept-at d p v i a e h k =
     by-test (eqb a e)
-    (λ f. let g : e - a ≡ 0 = omega (arith, eqb-true a e f) in rw (q, f, g))
-    (λ f. rw (q, f) (part-bytes d p v i a e (w .0) (w .1)))
+    (λ f. let g : e - a ≡ 0 = omega (arith, eqb-true a e f) in rw (f, g))
+    (λ f. rw f (part-bytes d p v i a e h k))
+
+kept-bytes : (d : List ℕ) (p : ℕ) (v : List ℕ) (r : Trimmed) → trimOf v ≡ r → Lies d p v → textIn d (keptOf p v) ≡ trimmed v
+unfolding keptOf trimmed
+kept-bytes d p v (Range a e) q i = let w = trim-within v q in rw q (kept-at d p v i a e (w .0) (w .1))
 kept-bytes d p v Wrong q i = rw q
 
 pub kept-is : (d : List ℕ) (p : ℕ) (v : List ℕ) → Lies d p v → textIn d (keptOf p v) ≡ trimmed v

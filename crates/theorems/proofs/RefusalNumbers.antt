@@ -171,11 +171,12 @@ late-trimmed : (p : ℕ) (l : List ℕ) (r : Trimmed) → trimmedLine p l r ≡ 
 late-trimmed p l (Range a e) h = let g : (5 ≤ 4) × (4 ≤ 15) = subst Late h (late-line (p + a) (part l a e)) in absurd (omega arith)
 late-trimmed p l Wrong h = refl
 
-line-late : (p : ℕ) (l : List ℕ) (r : Trimmed) (n : ℕ) → trimmedLine p l r ≡ Refused n → n ≤ 15
-line-late p l (Range a e) n h = let g : (5 ≤ n) × (n ≤ 15) = subst Late h (late-line (p + a) (part l a e)) in g .1
+line-late : (p : ℕ) (l : List ℕ) (r : Trimmed) (n : ℕ) → trimmedLine p l r ≡ Refused n → (4 ≤ n) × (n ≤ 15)
+line-late p l (Range a e) n h = let g : (5 ≤ n) × (n ≤ 15) = subst Late h (late-line (p + a) (part l a e)) in omega arith
 line-late p l Wrong n h = let q : 4 ≡ n = cc in omega arith
 
-pub line-number : (p : ℕ) (l : List ℕ) (n : ℕ) → lineOf p l ≡ Refused n → n ≤ 15
+-- a line is refused with a number from 4 to 15
+pub line-number : (p : ℕ) (l : List ℕ) (n : ℕ) → lineOf p l ≡ Refused n → (4 ≤ n) × (n ≤ 15)
 unfolding lineOf
 line-number p l n h = line-late p l (trimOf l) n h
 

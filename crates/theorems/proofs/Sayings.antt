@@ -46,7 +46,7 @@ pub from-answer : (v : Verdict) (d : VmdkDesc) (xs : List VmdkParsedExtent) → 
 from-answer Sound d xs = refl
 from-answer (Stopped r) d xs = refl
 
-from-more : (v : Verdict) → From 18 v → From 17 v
+pub from-more : (v : Verdict) → From 18 v → From 17 v
 from-more Sound h = tt
 from-more (Stopped r) h = omega arith
 

@@ -42,7 +42,7 @@ run-spelled w p (c ∷ cs) =
     (λ e. rw e (omega (arith, width-nil)))
 
 -- the encodings are those of a run and those after it
-encode-run : (w : Bool) (cs : List ℕ) → encodeAll cs ≡ encodeAll (runCodes w cs) ++ encodeAll (pastCodes w cs)
+pub encode-run : (w : Bool) (cs : List ℕ) → encodeAll cs ≡ encodeAll (runCodes w cs) ++ encodeAll (pastCodes w cs)
 unfolding encodeAll runCodes pastCodes
 encode-run w [] = refl
 encode-run w (c ∷ cs) =
@@ -135,6 +135,18 @@ trimmed-codes cs s =
     rw (spelled cs 0 s, spell-sound 0 cs, drop-spelled 0 cs)
     (cut-spelled (encodeAll cs) (0 + width (runCodes true cs)) (pastCodes true cs) (past-open cs) (past-run true cs))
 
+-- and what it leaves begins behind the blanks in front, if it leaves anything
+range-place : (p : ℕ) (cs : List ℕ) → Open cs → 0 < width (endCodes cs) → {a e : ℕ} → rangeOf (spell p cs) ≡ Range a e → a ≡ p
+range-place p [] o h q = absurd (omega (arith, ap width (end-blank [] (unfold allBlank in refl)), width-nil))
+range-place p (c ∷ cs) o h {a} {e} q =
+    let g : Range p (p + width (endCodes (c ∷ cs))) ≡ Range a e = sym (range-spelled p c cs o) ∙ q in cc
+
+pub trim-place : (cs : List ℕ) → scalars cs ≡ true → 0 < length (encodeAll (trimCodes cs)) → {a e : ℕ} → trimOf (encodeAll cs) ≡ Range a e → a ≡ width (runCodes true cs)
+unfolding trimOf trimText textAt
+trim-place cs s h q =
+    let z : 0 + width (runCodes true cs) ≡ width (runCodes true cs) = omega arith in
+    range-place (0 + width (runCodes true cs)) (pastCodes true cs) (past-open cs) h (rw (spelled cs 0 s, spell-sound 0 cs, drop-spelled 0 cs) at q) ∙ z
+
 -- ---- words
 scalars-tail : (c : ℕ) (cs : List ℕ) → scalars (c ∷ cs) ≡ true → scalars cs ≡ true
 unfolding scalars
@@ -142,7 +154,7 @@ scalars-tail c cs s =
     by-test (scalar c) (λ e. rw e at s)
     (λ e. let g : false ≡ true = rw e at s in let z : _≡_ {A = ℕ} 0 1 = cc in absurd (omega arith))
 
-past-scalars : (w : Bool) (cs : List ℕ) → scalars cs ≡ true → scalars (pastCodes w cs) ≡ true
+pub past-scalars : (w : Bool) (cs : List ℕ) → scalars cs ≡ true → scalars (pastCodes w cs) ≡ true
 unfolding pastCodes scalars
 past-scalars w [] s = refl
 past-scalars w (c ∷ cs) s =
@@ -163,11 +175,11 @@ width-zero (c ∷ cs) h = absurd (omega (arith, width-cons c cs, encode-some c))
 
 -- a text that goes on from a place with the encodings of scalar values
 module _ (t : List ℕ) (at : ℕ) (cs : List ℕ) (s : scalars cs ≡ true) (e : drop at t ≡ encodeAll cs) where
-  run-codes : (w : Bool) → runOf w t at ≡ at + width (runCodes w cs)
+  pub run-codes : (w : Bool) → runOf w t at ≡ at + width (runCodes w cs)
   unfolding runOf textAt
   run-codes w = rw (e, spelled cs at s) (run-spelled w at cs)
 
-  run-past : (w : Bool) → drop (at + width (runCodes w cs)) t ≡ encodeAll (pastCodes w cs)
+  pub run-past : (w : Bool) → drop (at + width (runCodes w cs)) t ≡ encodeAll (pastCodes w cs)
   run-past w = rw (← drop-drop (width (runCodes w cs)) at t, e, encode-run w cs) (drop-append-seam (encodeAll (runCodes w cs)) (encodeAll (pastCodes w cs)))
 
 module _ (t : List ℕ) (at : ℕ) (cs : List ℕ) (s : scalars cs ≡ true) (e : drop at t ≡ encodeAll cs) where

@@ -3,22 +3,24 @@
 use Prim.Native.Nat.{ℕ, suc, _+_, _/_, _≤_, _<_}
 use native.Mathlib.Omega.{arith}
 use mathlib.Core.List.{List, [], _∷_, _++_, append-assoc}
-use mathlib.Core.Bool.{true, false}
+use mathlib.Core.Bool.{Bool, true, false}
 use mathlib.Core.Path.{_≡_, refl, sym, ap, _∙_}
-use lib.ListN.{length}
+use lib.ListN.{length, drop, length-append}
 use lib.Dec.{leb, eqb}
 use borrow.Author.Tests.{eq-eqb, ne-eqb, eqb-true, le-leb, leb-false}
 use Rattle.text.specs.Ranges.{pick}
 use Rattle.text.specs.Blank.{blank}
 use Rattle.text.specs.Find.{findFrom}
 use Rattle.text.specs.Lines.{count}
-use Rattle.text.specs.Text.{textAt, sound, trimmed, runCodes, pastCodes, allBlank, endCodes, trimCodes}
+use Rattle.text.specs.Text.{alike, textAt, sound, trimOf, trimmed, runOf, wordOf, runCodes, pastCodes, allBlank, endCodes, trimCodes, wordCodes}
 use Rattle.text.specs.inside.Codes.{codes}
 use Rattle.theorems.specs.Unicode.{scalar, encode, trailing, scalars, encodeAll}
 use Rattle.text.specs.declared.find.Place.the-variants.{Here, Nowhere}
+use Rattle.text.specs.declared.words.Trimmed.the-variants.{Range}
+use Rattle.text.specs.declared.words.Word.the-variants.{None}
 use Rattle.text.proofs.Flat.{by-test}
 use Rattle.theorems.proofs.Sequences.{sound-cut}
-use Rattle.theorems.proofs.Spellings.{end-blank, Open, past-open, trimmed-codes, encode-some}
+use Rattle.theorems.proofs.Spellings.{end-blank, Open, past-open, trimmed-codes, trim-place, encode-run, past-scalars, encode-some, run-codes, run-past as codes-past, word-none-codes}
 
 -- ---- the code points of a text, and those that trimming takes away
 pub encode-append : (xs bs : List ℕ) → encodeAll (xs ++ bs) ≡ encodeAll xs ++ encodeAll bs
@@ -33,10 +35,10 @@ scalars-split (x ∷ xs) bs s =
     by-test (scalar x) (λ e. rw e (scalars-split xs bs (rw e at s)))
     (λ e. let g : false ≡ true = rw e at s in let z : _≡_ {A = ℕ} 0 1 = cc in absurd (omega arith))
 
-run-past : (cs : List ℕ) → runCodes true cs ++ pastCodes true cs ≡ cs
+run-past : (w : Bool) (cs : List ℕ) → runCodes w cs ++ pastCodes w cs ≡ cs
 unfolding runCodes pastCodes
-run-past [] = refl
-run-past (c ∷ cs) = by-test (blank c) (λ e. rw (e, run-past cs)) (λ e. rw e)
+run-past w [] = refl
+run-past w (c ∷ cs) = by-test (alike (blank c) w) (λ e. rw (e, run-past w cs)) (λ e. rw e)
 
 run-blank : (cs : List ℕ) → allBlank (runCodes true cs) ≡ true
 unfolding runCodes allBlank
@@ -104,6 +106,14 @@ firm-end : (cs : List ℕ) → Open cs → Open (endCodes cs)
 firm-end [] h = rw (end-blank [] nothing-blank) tt
 firm-end (c ∷ cs) h = rw (end-firm c cs h) h
 
+-- nothing is left to take away at the end
+end-twice : (cs : List ℕ) → endCodes (endCodes cs) ≡ endCodes cs
+unfolding endCodes allBlank
+end-twice [] = refl
+end-twice (c ∷ cs) =
+    let q : allBlank (endCodes cs) ≡ allBlank cs = sym (blank-append (endCodes cs) (tailCodes cs) (tail-blank cs)) ∙ ap allBlank (end-tail cs) in
+    by-test (allBlank (c ∷ cs)) (λ e. rw e) (λ e. rw (e, q, e, end-twice cs))
+
 -- ---- blanks before a text, and behind it
 -- a text's code points, with the blanks at both ends apart
 pub record Trimming (t : List ℕ) : Type 0 where
@@ -115,12 +125,14 @@ pub record Trimming (t : List ℕ) : Type 0 where
   pub whole : t ≡ encodeAll (front ++ (middle ++ back))
   pub left : trimmed t ≡ encodeAll middle
   pub firm : Open middle
+  pub shut : endCodes middle ≡ middle
+  pub place : 0 < length (trimmed t) → {a e : ℕ} → trimOf t ≡ Range a e → a ≡ length (encodeAll front)
 
 pub trim-parts : (t : List ℕ) → sound (textAt t 0) ≡ true → Trimming t
 trim-parts t h =
     let cs : List ℕ = codes (textAt t 0) in
     let s = sound-cut t h in
-    let q : runCodes true cs ++ (trimCodes cs ++ tailCodes (pastCodes true cs)) ≡ cs = rw (end-tail (pastCodes true cs)) (run-past cs) in
+    let q : runCodes true cs ++ (trimCodes cs ++ tailCodes (pastCodes true cs)) ≡ cs = rw (end-tail (pastCodes true cs)) (run-past true cs) in
     record {
       front = runCodes true cs;
       middle = trimCodes cs;
@@ -130,6 +142,8 @@ trim-parts t h =
       whole = rw (q, s .1);
       left = ap trimmed (sym (s .1)) ∙ trimmed-codes cs (s .0);
       firm = firm-end (pastCodes true cs) (past-open cs);
+      shut = end-twice (pastCodes true cs);
+      place = λ h k. trim-place cs (s .0) (rw (← trimmed-codes cs (s .0), s .1) h) (ap trimOf (s .1) ∙ k);
     }
 
 pub trim-front : (fs cs : List ℕ) → scalars (fs ++ cs) ≡ true → allBlank fs ≡ true → trimmed (encodeAll (fs ++ cs)) ≡ trimmed (encodeAll cs)
@@ -159,6 +173,35 @@ unfolding encodeAll
 first-byte [] ds {b} {r} f s e = let g : [] ≡ b ∷ r = sym nothing-trimmed ∙ e in let z : _≡_ {A = ℕ} 0 1 = cc in absurd (omega arith)
 first-byte (c ∷ cs) ds f s e =
     head-same (encode c) (encodeAll (endCodes cs)) (encodeAll (cs ++ ds)) (encode-some c) (sym (trim-firm c cs f s) ∙ e)
+
+-- ---- the second word
+-- only blanks are left where there is no word
+none-blank : (cs : List ℕ) → wordCodes cs ≡ [] → allBlank cs ≡ true
+unfolding runCodes pastCodes allBlank
+none-blank [] h = refl
+none-blank (c ∷ cs) h =
+    by-test (blank c) (λ e. rw e (none-blank cs (rw e at h)))
+    (λ e. let g : c ∷ runCodes false cs ≡ [] = rw (e, e) at h in let z : _≡_ {A = ℕ} 0 1 = cc in absurd (omega arith))
+
+no-width : (n : ℕ) (rest : List ℕ) → length rest ≡ 0 → n + length (encodeAll rest) ≡ n
+unfolding encodeAll
+no-width n [] z = omega arith
+no-width n (c ∷ rest) z = absurd (omega arith)
+
+-- a text that does not end in a blank has a word behind its first blank
+pub second-there : (ms t : List ℕ) → scalars ms ≡ true → endCodes ms ≡ ms → t ≡ encodeAll ms → runOf false t 0 < length t → wordOf t (runOf false t 0) ≡ None → ⊥
+second-there ms t s f e h n =
+    let e₂ : drop 0 t ≡ encodeAll ms = e in
+    let run : List ℕ = runCodes false ms in
+    let rest : List ℕ = pastCodes false ms in
+    let at = run-codes t 0 ms s e₂ false in
+    let b = none-blank rest (word-none-codes t (0 + length (encodeAll run)) rest (past-scalars false ms s) (codes-past t 0 ms s e₂ false) .0 (rw at at n)) in
+    let q : ms ≡ endCodes run = sym f ∙ ap endCodes (sym (run-past false ms)) ∙ end-append run rest b in
+    let l₁ : length run + length rest ≡ length ms = sym (length-append run rest) ∙ ap length (run-past false ms) in
+    let l₂ : length (endCodes run) + length (tailCodes run) ≡ length run = sym (length-append (endCodes run) (tailCodes run)) ∙ ap length (end-tail run) in
+    let z : length rest ≡ 0 = omega (arith, ap length q) in
+    let w : length t ≡ length (encodeAll run) = ap length (e ∙ encode-run false ms) ∙ length-append (encodeAll run) (encodeAll rest) ∙ no-width (length (encodeAll run)) rest z in
+    omega arith
 
 -- ---- a byte of ASCII in a sound text
 module _ (b : ℕ) (low : b ≤ 0x7F) where
@@ -213,6 +256,12 @@ count-append b [] r h k = k
 count-append b (x ∷ l) r h k =
     by-test (eqb x b) (λ e. let g : suc (count b l) ≡ 0 = rw e at h in absurd (omega arith))
     (λ e. rw e (count-append b l r (rw e at h) k))
+
+pub count-cut : (b : ℕ) (l r : List ℕ) → count b (l ++ b ∷ r) ≡ suc (count b l + count b r)
+unfolding count
+count-cut b [] r = let z : 0 + count b r ≡ count b r = omega arith in rw (eq-eqb b b refl, z)
+count-cut b (x ∷ l) r =
+    by-test (eqb x b) (λ e. rw (e, count-cut b l r) (omega arith)) (λ e. rw (e, count-cut b l r))
 
 pub find-none : (b p : ℕ) (l : List ℕ) → count b l ≡ 0 → findFrom b p l ≡ Nowhere
 unfolding findFrom count

@@ -50,7 +50,7 @@ use Rattle.lines.specs.declared.record.VmdkParsedExtent.{VmdkParsedExtent}
 use Rattle.descriptor.specs.declared.read.Read.{Read}
 use Rattle.theorems.proofs.RefusalNumbers.{OfExtent, extent-locked-line, extent-line}
 use Rattle.theorems.proofs.Trimming.{Trimming, trim-front, trim-back, first-byte, encode-append, encode-cut, scalars-split, cut-at, blanks-free, count-append, find-none, find-behind}
-use Rattle.theorems.proofs.Sayings.{From, from-sizes, from-answer, setAll}
+use Rattle.theorems.proofs.Sayings.{From, from-sizes, from-answer, setAll, never}
 use Rattle.theorems.proofs.Verdicts.{late, lines-sound, lines-checked, accepted-lines, accepted-checked}
 use Rattle.theorems.proofs.ExtentLines.{range-is, range-sound}
 
@@ -143,7 +143,7 @@ unfolding accessWord same
 v-word zero r = refl
 v-word (suc n) r = refl
 
-v-access : (p : ℕ) (t : List ℕ) (end : ℕ) → accessLine Other p t end ≡ keyLine p t
+pub v-access : (p : ℕ) (t : List ℕ) (end : ℕ) → accessLine Other p t end ≡ keyLine p t
 unfolding accessLine
 v-access p t end = refl
 
@@ -207,7 +207,7 @@ module _ (t a r : List ℕ) (e : t ≡ a ++ 0x3D ∷ r) (n : count 0x3D a ≡ 0)
   after-equals : drop (length a + 1) t ≡ r
   after-equals = rw e (drop-append-add a (0x3D ∷ r) 1)
 
-  key-said : (p : ℕ) → keyLine p t ≡ valueOf (keyOf (trimmed a)) (p + (length a + 1)) r
+  pub key-said : (p : ℕ) → keyLine p t ≡ valueOf (keyOf (trimmed a)) (p + (length a + 1)) r
   unfolding keyLine
   key-said p = rw (equals-at, before-equals, after-equals)
 
@@ -217,7 +217,7 @@ module _ (t a r : List ℕ) (e : t ≡ a ++ 0x3D ∷ r) (n : count 0x3D a ≡ 0)
 
 -- a text without `=`
 module _ (t : List ℕ) (n : count 0x3D t ≡ 0) where
-  key-silent : (p : ℕ) → keyLine p t ≡ Nothing
+  pub key-silent : (p : ℕ) → keyLine p t ≡ Nothing
   unfolding keyLine findAt
   key-silent p = rw (find-none 0x3D 0 t n)
 
@@ -300,7 +300,7 @@ unfolding refuses
 refuses-four h = let z : _≡_ {A = ℕ} 0 1 = cc in omega arith
 
 -- each of some lines that are not refused
-refuses-apart : (s : Said) (ss : List Said) → refuses (s ∷ ss) ≡ false → (refuses (s ∷ []) ≡ false) × (refuses ss ≡ false)
+pub refuses-apart : (s : Said) (ss : List Said) → refuses (s ∷ ss) ≡ false → (refuses (s ∷ []) ≡ false) × (refuses ss ≡ false)
 unfolding refuses
 refuses-apart Nothing ss h = (refl, h)
 refuses-apart (Set v) ss h = (refl, h)
@@ -350,7 +350,7 @@ probe-first t b h =
 
 -- ---- with reading
 -- the version after some lines is the last that they say
-version-set : (d : VmdkDesc) (ss : List Said) → setAll d ss .version ≡ versionAfter (d .version) ss
+pub version-set : (d : VmdkDesc) (ss : List Said) → setAll d ss .version ≡ versionAfter (d .version) ss
 unfolding setAll setOf versionAfter
 version-set d [] = refl
 version-set d (Set (Is·Version v) ∷ ss) = version-set (setOf d (Is·Version v)) ss
@@ -364,16 +364,16 @@ version-set d (Nothing ∷ ss) = version-set d ss
 version-set d (Extent x ∷ ss) = version-set d ss
 version-set d (Refused n ∷ ss) = version-set d ss
 
--- after the lines 17 is answered exactly if the version is not 1 to 3
-version-checked : (d : VmdkDesc) (xs : List VmdkParsedExtent) → (checked d xs .verdict ≡ refusal 17 0) ↔ (within 1 3 (d .version) ≡ false)
+-- after the lines 17 is answered, with 0, exactly if the version is not 1 to 3
+version-checked : (d : VmdkDesc) (xs : List VmdkParsedExtent) (k : ℕ) → (checked d xs .verdict ≡ refusal 17 k) ↔ ((within 1 3 (d .version) ≡ false) × (k ≡ 0))
 unfolding checked
-version-checked d xs = (
+version-checked d xs k = (
   λ h. by-test (within 1 3 (d .version))
-      (λ e. let g : sizesFrom 0 0 xs ≡ refusal 17 0 = sym (from-answer (sizesFrom 0 0 xs) d xs) ∙ (rw e at h) in
+      (λ e. let g : sizesFrom 0 0 xs ≡ refusal 17 k = sym (from-answer (sizesFrom 0 0 xs) d xs) ∙ (rw e at h) in
       let f : 18 ≤ 17 = subst (From 18) g (from-sizes 0 0 xs) in
       absurd (omega arith))
-      (λ e. e),
-  λ e. rw e,
+      (λ e. (e, sym (never 17 k 17 0 (rw e at h) .1))),
+  λ w. rw (w .0, w .1),
 )
 
 module _ (t : List ℕ) where
@@ -385,21 +385,22 @@ module _ (t : List ℕ) where
   pub last-accepted : readOf t .verdict ≡ Sound → within 1 3 (lastVersion (sayingsOf t)) ≡ true
   last-accepted h = rw (version-set noDesc (sayingsOf t)) at (accepted-checked t h .0)
 
-  -- 17 is answered exactly if every line is sound and the last version is not 1 to 3
-  pub last-refused : (readOf t .verdict ≡ refusal 17 0) ↔ (ByLine t × AllSound (sayingsOf t) × (within 1 3 (lastVersion (sayingsOf t)) ≡ false))
-  last-refused = (
-    λ h. let b = late t 17 0 (omega arith) h in
+  -- 17 is answered, with 0, exactly if every line is sound and the last version is not 1 to 3
+  pub last-refused : (k : ℕ) → (readOf t .verdict ≡ refusal 17 k) ↔ (ByLine t × AllSound (sayingsOf t) × (within 1 3 (lastVersion (sayingsOf t)) ≡ false) × (k ≡ 0))
+  last-refused k = (
+    λ h. let b = late t 17 k (omega arith) h in
         let f : 17 ≤ 17 = omega arith in
         let a = lines-sound t b (subst (From 17) (sym h) f) in
         let q = ap (λ (x : Read). x .verdict) (sym (lines-checked t b a)) ∙ h in
-        (b, a, rw (version-set noDesc (sayingsOf t)) at (version-checked (setAll noDesc (sayingsOf t)) (extentsIn (sayingsOf t)) .0 q)),
+        let v = version-checked (setAll noDesc (sayingsOf t)) (extentsIn (sayingsOf t)) k .0 q in
+        (b, a, rw (version-set noDesc (sayingsOf t)) at (v .0), v .1),
     λ w. rw (lines-checked t (w .0) (w .1))
-        (version-checked (setAll noDesc (sayingsOf t)) (extentsIn (sayingsOf t)) .1 (rw (version-set noDesc (sayingsOf t)) (w .2))),
+        (version-checked (setAll noDesc (sayingsOf t)) (extentsIn (sayingsOf t)) k .1 (rw (version-set noDesc (sayingsOf t)) (w .2), w .3)),
   )
 
   -- 17, where probing says yes
   pub probe-refused : ((readOf t .verdict ≡ refusal 17 0) × (probeOf t ≡ true)) ↔ (ByLine t × AllSound (sayingsOf t) × (within 1 3 (firstVersion (sayingsOf t)) ≡ true) × (within 1 3 (lastVersion (sayingsOf t)) ≡ false))
   probe-refused = (
-    λ w. let a = last-refused .0 (w .0) in (a .0, a .1, sym (probe-first t (a .0) (a .1 .0)) ∙ w .1, a .2),
-    λ w. (last-refused .1 (w .0, w .1, w .3), probe-first t (w .0) (w .1 .0) ∙ w .2),
+    λ w. let a = last-refused 0 .0 (w .0) in (a .0, a .1, sym (probe-first t (a .0) (a .1 .0)) ∙ w .1, a .2),
+    λ w. (last-refused 0 .1 (w .0, w .1, w .3, refl), probe-first t (w .0) (w .1 .0) ∙ w .2),
   )

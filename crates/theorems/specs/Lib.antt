@@ -1,12 +1,17 @@
 pub mod Cases
 pub mod Continuing
 pub mod Counted
+pub mod GivenWhen
+pub mod LineWords
 pub mod Looks
 pub mod Maps
 pub mod NamedCases
 pub mod NamedPlaces
+pub mod Over
+pub mod Refusing
 pub mod Reports
 pub mod Rows
 pub mod Statements
 pub mod Tiling
 pub mod Unicode
+pub mod Values
