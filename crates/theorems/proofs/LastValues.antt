@@ -32,7 +32,7 @@ use Rattle.theorems.specs.Statements.{LineAt, placeAfter, sayings, sayin
 use Rattle.theorems.specs.LineWords.{Item, version, cid, parent-cid, create-type, geometry, keyText, KeyLine}
 use Rattle.theorems.specs.Values.{Held, number, text, heldIn, startOf, meant, Holds, NoneHas, LastLine, LastSaid}
 use Rattle.theorems.proofs.Sayings.{setAll}
-use Rattle.theorems.proofs.Verdicts.{lines-checked, accepted-lines, checked-sound}
+use Rattle.theorems.proofs.Verdicts.{accepted-lines, accepted-checked}
 use Rattle.theorems.proofs.LinePlaces.{lies}
 use Rattle.theorems.proofs.Versions.{refuses-apart}
 use Rattle.theorems.proofs.KeyLines.{itemOf, heldOf, itemKey, item-key, key-line-says, key-sets}
@@ -240,8 +240,4 @@ module _ (d : List ℕ) (i : Item) where
   -- its record holds, for each key, what the last line with it says
   pub last-held : readOf d .verdict ≡ Sound → LastSaid d i (heldIn (readOf d .descriptor .desc) i)
   last-held e =
-      let a = accepted-lines d e in
-      let q = lines-checked d (a .0) (a .1) in
-      let r = checked-sound (setAll noDesc (sayingsOf d)) (extentsIn (sayingsOf d)) (ap (λ (x : Read). x .verdict) (sym q) ∙ e) in
-      let w : readOf d .descriptor ≡ recordOf (setAll noDesc (sayingsOf d)) (extentsIn (sayingsOf d)) = ap (λ (x : Read). x .descriptor) q ∙ r .1 in
-      rw w (last-by (heldIn (setAll noDesc (sayingsOf d)) i) (after-lines 0 (linesOf d) i noDesc (a .1 .0)))
+      rw (accepted-checked d e .1) (last-by (heldIn (setAll noDesc (sayingsOf d)) i) (after-lines 0 (linesOf d) i noDesc (accepted-lines d e .1 .0)))
