@@ -4,3 +4,4 @@ pub mod Rows
 pub mod Held
 pub mod Halves
 pub mod Mappings
+pub mod Searched

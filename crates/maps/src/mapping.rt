@@ -8,8 +8,10 @@ use tables::table::Row;
 use tables::table::ShallowMapping;
 use tables::table::Source;
 use tables::table::Table;
+use text::sector::Bytes;
 ghost use mathlib.Core.Path.{_≡_};
 ghost use Prim.Native.Nat.{min};
+ghost use Rattle.tables.specs.Build.{noRow};
 ghost use Rattle.maps.specs.Map.{ended, refused, writable, sourced, mapOf};
 ghost use Rattle.maps.specs.Halving.{spanOf, Held, foundBy, foundOf, answerOf};
 
@@ -33,6 +35,14 @@ fn span(h: Heading, offset: u64) -> usize
         }
     }
     0
+}
+
+// No row: no access and zeros.
+fn no_row() -> Row
+    ensures { λ r. ⌜ r ≡ noRow ⌝ }
+{
+    let source = Source::NoAccess;
+    Row { start: Bytes(0), end: Bytes(0), source }
 }
 
 // What was found, in one.
@@ -68,9 +78,9 @@ pub fn find(t: &Table, offset: u64) -> Found
 {
     let h = halving::head(t);
     let hi = span(h, offset);
-    let code = halving::search(t, 0, hi, offset, 0);
+    let mut row = no_row();
+    let code = halving::search(t, 0, hi, offset, 0, &mut row);
     let hit = halving::unpack(code);
-    let row = halving::row_at(t, hit.row);
     as_found(h, hit, row, offset)
 }
 
