@@ -5,3 +5,4 @@ pub mod Held
 pub mod Halves
 pub mod Mappings
 pub mod Searched
+pub mod LentLocal
