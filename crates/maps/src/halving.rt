@@ -113,7 +113,14 @@ fn decide(row: Row, lo: usize, mid: usize, hi: usize, offset: u64, looked: usize
 
 // The row that holds the offset, among those from lo up to hi; it calls itself on the half that is left. The row that it ends at is left in `into`: it was read
 // at the last look, and is not read again. By hand.
-pub(crate) fn search(t: &Table, lo: usize, hi: usize, offset: u64, looked: usize, into: &mut Row) -> usize
+pub(crate) fn search(
+    t: &Table,
+    lo: usize,
+    hi: usize,
+    offset: u64,
+    looked: usize,
+    into: &mut Row,
+) -> usize
     requires { ⌜ (hi ≤ 128) × (looked + (hi - lo) ≤ 128) ⌝ }
     ensures { λ r. ⌜ (r ≡ packed (upon looked (halve (hi - lo) (now (t .entry) .rows) lo hi offset))) × (now (into .exit) ≡ keptRow (now (t .entry) .rows) (halve (hi - lo) (now (t .entry) .rows) lo hi offset) (now (into .entry))) ⌝ }
 {

@@ -42,7 +42,11 @@ fn no_row() -> Row
     ensures { λ r. ⌜ r ≡ noRow ⌝ }
 {
     let source = Source::NoAccess;
-    Row { start: Bytes(0), end: Bytes(0), source }
+    Row {
+        start: Bytes(0),
+        end: Bytes(0),
+        source,
+    }
 }
 
 // What was found, in one.
