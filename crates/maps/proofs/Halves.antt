@@ -138,20 +138,18 @@ module _ (rows : List Row) (lo hi o k : ℕ) where
   abbrev rest : Search
   rest = halve (afterLook rows lo hi o k .hi - afterLook rows lo hi o k .lo) rows (afterLook rows lo hi o k .lo) (afterLook rows lo hi o k .hi) o
 
-  goes-on : lo < hi → afterLook rows lo hi o k .more ≡ true → looked rest ≡ whole
-  goes-on l e = ap (λ (c : Bool). pick c (looked rest) (found (middle lo hi) 1)) (sym e) ∙ sym (halve-look rows lo hi o k l)
-
-  hits : lo < hi → afterLook rows lo hi o k .more ≡ false → found (middle lo hi) 1 ≡ whole
-  hits l e = ap (λ (c : Bool). pick c (looked rest) (found (middle lo hi) 1)) (sym e) ∙ sym (halve-look rows lo hi o k l)
+  -- what the look at the middle row leads to
+  leads : (more : Bool) → lo < hi → afterLook rows lo hi o k .more ≡ more → pick more (looked rest) (found (middle lo hi) 1) ≡ whole
+  leads more l e = ap (λ (c : Bool). pick c (looked rest) (found (middle lo hi) 1)) (sym e) ∙ sym (halve-look rows lo hi o k l)
 
   pub look-on : lo < hi → afterLook rows lo hi o k .more ≡ true → packed (upon (afterLook rows lo hi o k .looked) rest) ≡ codeOf
   look-on l e =
       let m = middle-in lo hi l in
       let s = next-narrow (midRow rows lo hi) lo (middle lo hi) hi o k (m .0) (m .1) in
-      ap (λ (j : ℕ). packed (upon j rest)) (s .1 .1) ∙ ap packed (sym (upon-looked k rest) ∙ ap (upon k) (goes-on l e))
+      ap (λ (j : ℕ). packed (upon j rest)) (s .1 .1) ∙ ap packed (sym (upon-looked k rest) ∙ ap (upon k) (leads true l e))
 
   pub look-hit : lo < hi → afterLook rows lo hi o k .more ≡ false → afterLook rows lo hi o k .code ≡ codeOf
-  look-hit l e = next-code (midRow rows lo hi) lo (middle lo hi) hi o k ∙ ap (λ (z : Search). packed (upon k z)) (hits l e)
+  look-hit l e = next-code (midRow rows lo hi) lo (middle lo hi) hi o k ∙ ap (λ (z : Search). packed (upon k z)) (leads false l e)
 
   pub look-none : ltb lo hi ≡ false → packed (nowhere k) ≡ codeOf
   look-none e = ap (λ (n : ℕ). packed (nowhere n)) (plain k) ∙ ap (λ (z : Search). packed (upon k z)) (sym (halve-none (hi - lo) rows lo hi o e))
@@ -161,10 +159,10 @@ module _ (rows : List Row) (lo hi o k : ℕ) where
 
   module _ (was : Row) where
     pub kept-on : lo < hi → afterLook rows lo hi o k .more ≡ true → keptRow rows rest was ≡ keptRow rows whole was
-    kept-on l e = sym (kept-looked rows rest was) ∙ ap (λ (z : Search). keptRow rows z was) (goes-on l e)
+    kept-on l e = sym (kept-looked rows rest was) ∙ ap (λ (z : Search). keptRow rows z was) (leads true l e)
 
     pub kept-hit : lo < hi → afterLook rows lo hi o k .more ≡ false → midRow rows lo hi ≡ keptRow rows whole was
-    kept-hit l e = ap (λ (z : Search). keptRow rows z was) (hits l e)
+    kept-hit l e = ap (λ (z : Search). keptRow rows z was) (leads false l e)
 
     pub kept-none : ltb lo hi ≡ false → was ≡ keptRow rows whole was
     kept-none e = ap (λ (z : Search). keptRow rows z was) (sym (halve-none (hi - lo) rows lo hi o e))
@@ -259,7 +257,7 @@ kept-held rows o bound (nowhere n) was f = λ e. absurd (true≢false (sym e))
 pub end-held : (t : Table) (o : ℕ) → Held (hitOf (endOf t o)) (leftRow t o) o
 end-held t o = subst (λ (z : Search). Held (hitOf (endOf t o)) (keptRow (t .rows) z noRow) o) (sym (ran-is t o)) (kept-held (t .rows) o (spanOf (headOf t) o) (endOf t o) noRow (finds t o))
 
--- of a row only what holds the offset is told, so that no row need be read where the search ends at none
+-- what is told of a row is told of one that holds the offset, so that none need be read where the search ends at none
 kept-found : (h : Heading) (rows : List Row) (o : ℕ) (s : Search) (was : Row) → foundBy h (hitOf s) (keptRow rows s was) o ≡ foundBy h (hitOf s) (getD rows (hitOf s .row) noRow) o
 kept-found h rows o (found i n) was = refl
 kept-found h rows o (nowhere n) was = refl

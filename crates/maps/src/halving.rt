@@ -30,8 +30,8 @@ pub struct Next {
     pub code: usize,
 }
 
-// One row. By hand.
-pub(crate) fn row_at(t: &Table, i: usize) -> Row
+// One row, for a look at it. By hand.
+fn row_at(t: &Table, i: usize) -> Row
     requires { ⌜ i < 128 ⌝ }
     ensures { λ r. ⌜ r ≡ getD (now (t .entry) .rows) i noRow ⌝ }
 {
