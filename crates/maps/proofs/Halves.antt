@@ -1,7 +1,7 @@
 -- Facts on the halving search that the proofs cite. A look leaves a narrower window or ends the search, so the definition's steps are those of a function that calls itself on what is left; and a search's end is had back from its number, since a row's number is below 128.
 use Prim.Native.Nat.{ℕ, zero, suc, _+_, _-_, _*_, _/_, _%_, _<_, _≤_}
 use native.Mathlib.Omega.{arith}
-use mathlib.Core.Path.{_≡_, refl, sym, _∙_, ap}
+use mathlib.Core.Path.{_≡_, refl, sym, _∙_, ap, subst}
 use mathlib.Core.Bool.{Bool, true, false, not, true≢false}
 use mathlib.Core.List.{List}
 use lib.Dec.{T, ltb, leb}
@@ -16,7 +16,7 @@ use Rattle.maps.specs.declared.halving.Hit.{Hit}
 use Rattle.maps.specs.declared.halving.Next.{Next}
 use Rattle.tables.specs.Build.{noRow}
 use Rattle.maps.specs.Map.{Search, found, nowhere, looked, holds, middle, decide, halve, inRow, searchOf, mapOf}
-use Rattle.maps.specs.inside.Halving.{headOf, upon, packed, hitOf, unpackOf, window, nextOf, spanOf, endOf, endRow, Held, foundBy, foundOf, answerOf}
+use Rattle.maps.specs.inside.Halving.{headOf, upon, packed, keptRow, hitOf, unpackOf, window, nextOf, spanOf, endOf, endRow, Held, foundBy, foundOf, answerOf}
 
 -- by cases on a test
 pub pick-elim : {X : Type 0} (P : X → Type 0) (b : Bool) (x y : X) → (b ≡ true → P x) → (b ≡ false → P y) → P (pick b x y)
@@ -121,32 +121,51 @@ upon-looked : (k : ℕ) (s : Search) → upon k (looked s) ≡ upon (k + 1) s
 upon-looked k (found i n) = ap (found i) (omega arith)
 upon-looked k (nowhere n) = ap nowhere (omega arith)
 
--- the number that a search answers: the rest's where the row does not hold the offset, the row's where it does, and none where there is no row
-module _ (rows : List Row) (lo hi o k : ℕ) where
-  -- the search's answer
-  abbrev pub codeOf : ℕ
-  codeOf = packed (upon k (halve (hi - lo) rows lo hi o))
+kept-looked : (rows : List Row) (s : Search) (was : Row) → keptRow rows (looked s) was ≡ keptRow rows s was
+kept-looked rows (found i n) was = refl
+kept-looked rows (nowhere n) was = refl
 
-  pub look-on : lo < hi → afterLook rows lo hi o k .more ≡ true
-      → packed (upon (afterLook rows lo hi o k .looked) (halve (afterLook rows lo hi o k .hi - afterLook rows lo hi o k .lo) rows (afterLook rows lo hi o k .lo) (afterLook rows lo hi o k .hi) o)) ≡ codeOf
+-- what a search answers, a number and the row that it leaves: the rest's where the row looked at does not hold the offset, that row's where it does, and none where there is no row
+module _ (rows : List Row) (lo hi o k : ℕ) where
+  -- the search's end, and its number
+  abbrev whole : Search
+  whole = halve (hi - lo) rows lo hi o
+
+  abbrev pub codeOf : ℕ
+  codeOf = packed (upon k whole)
+
+  -- the end of the rest of the search, after a look
+  abbrev rest : Search
+  rest = halve (afterLook rows lo hi o k .hi - afterLook rows lo hi o k .lo) rows (afterLook rows lo hi o k .lo) (afterLook rows lo hi o k .hi) o
+
+  -- what the look at the middle row leads to
+  leads : (more : Bool) → lo < hi → afterLook rows lo hi o k .more ≡ more → pick more (looked rest) (found (middle lo hi) 1) ≡ whole
+  leads more l e = ap (λ (c : Bool). pick c (looked rest) (found (middle lo hi) 1)) (sym e) ∙ sym (halve-look rows lo hi o k l)
+
+  pub look-on : lo < hi → afterLook rows lo hi o k .more ≡ true → packed (upon (afterLook rows lo hi o k .looked) rest) ≡ codeOf
   look-on l e =
-      let n : Next = afterLook rows lo hi o k in
       let m = middle-in lo hi l in
       let s = next-narrow (midRow rows lo hi) lo (middle lo hi) hi o k (m .0) (m .1) in
-      let rest : Search = halve (n .hi - n .lo) rows (n .lo) (n .hi) o in
-      ap (λ (j : ℕ). packed (upon j rest)) (s .1 .1) ∙ ap packed (sym (upon-looked k rest) ∙ ap (upon k) (ap (λ (c : Bool). pick c (looked rest) (found (middle lo hi) 1)) (sym e) ∙ sym (halve-look rows lo hi o k l)))
+      ap (λ (j : ℕ). packed (upon j rest)) (s .1 .1) ∙ ap packed (sym (upon-looked k rest) ∙ ap (upon k) (leads true l e))
 
   pub look-hit : lo < hi → afterLook rows lo hi o k .more ≡ false → afterLook rows lo hi o k .code ≡ codeOf
-  look-hit l e =
-      let n : Next = afterLook rows lo hi o k in
-      next-code (midRow rows lo hi) lo (middle lo hi) hi o k
-      ∙ ap (λ (z : Search). packed (upon k z)) (ap (λ (c : Bool). pick c (looked (halve (n .hi - n .lo) rows (n .lo) (n .hi) o)) (found (middle lo hi) 1)) (sym e) ∙ sym (halve-look rows lo hi o k l))
+  look-hit l e = next-code (midRow rows lo hi) lo (middle lo hi) hi o k ∙ ap (λ (z : Search). packed (upon k z)) (leads false l e)
 
   pub look-none : ltb lo hi ≡ false → packed (nowhere k) ≡ codeOf
   look-none e = ap (λ (n : ℕ). packed (nowhere n)) (plain k) ∙ ap (λ (z : Search). packed (upon k z)) (sym (halve-none (hi - lo) rows lo hi o e))
     where
       plain : (k : ℕ) → k ≡ k + 0
       plain k = omega arith
+
+  module _ (was : Row) where
+    pub kept-on : lo < hi → afterLook rows lo hi o k .more ≡ true → keptRow rows rest was ≡ keptRow rows whole was
+    kept-on l e = sym (kept-looked rows rest was) ∙ ap (λ (z : Search). keptRow rows z was) (leads true l e)
+
+    pub kept-hit : lo < hi → afterLook rows lo hi o k .more ≡ false → midRow rows lo hi ≡ keptRow rows whole was
+    kept-hit l e = ap (λ (z : Search). keptRow rows z was) (leads false l e)
+
+    pub kept-none : ltb lo hi ≡ false → was ≡ keptRow rows whole was
+    kept-none e = ap (λ (z : Search). keptRow rows z was) (sym (halve-none (hi - lo) rows lo hi o e))
 
 -- the row found holds the offset, and is one of the rows
 abbrev pub Finds : List Row → ℕ → ℕ → Search → Type 0
@@ -227,19 +246,24 @@ finds t o = halve-finds (spanOf (headOf t) o) (t .rows) 0 (spanOf (headOf t) o) 
 pub end-back : (t : Table) (o : ℕ) → unpackOf (packed (upon 0 (ranOf t o))) ≡ hitOf (endOf t o)
 end-back t o = ap (λ (z : Search). unpackOf (packed (upon 0 z))) (ran-is t o) ∙ unpack-upon (t .rows) o (spanOf (headOf t) o) (span-most (headOf t) o) (endOf t o) (finds t o)
 
-row-below : (rows : List Row) (o bound : ℕ) → bound ≤ 128 → (s : Search) → Finds rows o bound s → hitOf s .row < 128
-row-below rows o bound b (found i n) f = omega (arith, f .1)
-row-below rows o bound b (nowhere n) f = omega arith
+-- the row that `search` leaves, where there was none
+abbrev pub leftRow : Table → ℕ → Row
+leftRow t o = keptRow (t .rows) (ranOf t o) noRow
 
-pub end-row : (t : Table) (o : ℕ) → hitOf (endOf t o) .row < 128
-end-row t o = row-below (t .rows) o (spanOf (headOf t) o) (span-most (headOf t) o) (endOf t o) (finds t o)
+kept-held : (rows : List Row) (o bound : ℕ) (s : Search) (was : Row) → Finds rows o bound s → Held (hitOf s) (keptRow rows s was) o
+kept-held rows o bound (found i n) was f = λ _. f .0
+kept-held rows o bound (nowhere n) was f = λ e. absurd (true≢false (sym e))
 
-row-held : (rows : List Row) (o bound : ℕ) (s : Search) → Finds rows o bound s → Held (hitOf s) (getD rows (hitOf s .row) noRow) o
-row-held rows o bound (found i n) f = λ _. f .0
-row-held rows o bound (nowhere n) f = λ e. absurd (true≢false (sym e))
+pub end-held : (t : Table) (o : ℕ) → Held (hitOf (endOf t o)) (leftRow t o) o
+end-held t o = subst (λ (z : Search). Held (hitOf (endOf t o)) (keptRow (t .rows) z noRow) o) (sym (ran-is t o)) (kept-held (t .rows) o (spanOf (headOf t) o) (endOf t o) noRow (finds t o))
 
-pub end-held : (t : Table) (o : ℕ) → Held (hitOf (endOf t o)) (endRow t o) o
-end-held t o = row-held (t .rows) o (spanOf (headOf t) o) (endOf t o) (finds t o)
+-- what is told of a row is told of one that holds the offset, so that none need be read where the search ends at none
+kept-found : (h : Heading) (rows : List Row) (o : ℕ) (s : Search) (was : Row) → foundBy h (hitOf s) (keptRow rows s was) o ≡ foundBy h (hitOf s) (getD rows (hitOf s .row) noRow) o
+kept-found h rows o (found i n) was = refl
+kept-found h rows o (nowhere n) was = refl
+
+pub end-found : (t : Table) (o : ℕ) → foundBy (headOf t) (hitOf (endOf t o)) (leftRow t o) o ≡ foundOf t o
+end-found t o = ap (λ (z : Search). foundBy (headOf t) (hitOf (endOf t o)) (keptRow (t .rows) z noRow) o) (ran-is t o) ∙ kept-found (headOf t) (t .rows) o (endOf t o) noRow
 
 -- the mapping, as `get_mapping` puts it together
 answer-in : (t : Table) (o asked : ℕ) (s : Search) → leb (t .count) most ≡ true → leb (t .size .0) o ≡ false → answerOf (foundBy (headOf t) (hitOf s) (getD (t .rows) (hitOf s .row) noRow) o) o asked ≡ inRow t o asked s

@@ -13,3 +13,5 @@ pub mod Lent
 pub mod Local
 pub mod LentTable
 pub mod Listings
+pub mod Searched
+pub mod LentLocal

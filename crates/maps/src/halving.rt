@@ -7,7 +7,7 @@ ghost use Prim.Native.Nat.{_+_, _-_, _<_, _≤_};
 ghost use lib.ListN.{getD};
 ghost use Rattle.tables.specs.Build.{noRow};
 ghost use Rattle.maps.specs.Map.{nowhere, middle as middleOf, halve};
-ghost use Rattle.maps.specs.inside.Halving.{headOf, upon, packed, unpackOf, window as windowOf, nextOf};
+ghost use Rattle.maps.specs.inside.Halving.{headOf, upon, packed, keptRow, unpackOf, window as windowOf, nextOf};
 
 // The numbers beside the rows.
 pub(crate) struct Heading {
@@ -31,8 +31,8 @@ pub(crate) struct Next {
     pub code: usize,
 }
 
-// One row. By hand.
-pub(crate) fn row_at(t: &Table, i: usize) -> Row
+// One row, for a look at it. By hand.
+fn row_at(t: &Table, i: usize) -> Row
     requires { ⌜ i < 128 ⌝ }
     ensures { λ r. ⌜ r ≡ getD (now (t .entry) .rows) i noRow ⌝ }
 {
@@ -112,18 +112,27 @@ fn decide(row: Row, lo: usize, mid: usize, hi: usize, offset: u64, looked: usize
     window(offset < start.offset(), lo, mid, mid, looked)
 }
 
-// The row that holds the offset, among those from lo up to hi; it calls itself on the half that is left. By hand.
-pub(crate) fn search(t: &Table, lo: usize, hi: usize, offset: u64, looked: usize) -> usize
+// The row that holds the offset, among those from lo up to hi; it calls itself on the half that is left. The row that it ends at is left in `into`: it was read
+// at the last look, and is not read again. By hand.
+pub(crate) fn search(
+    t: &Table,
+    lo: usize,
+    hi: usize,
+    offset: u64,
+    looked: usize,
+    into: &mut Row,
+) -> usize
     requires { ⌜ (hi ≤ 128) × (looked + (hi - lo) ≤ 128) ⌝ }
-    ensures { λ r. ⌜ r ≡ packed (upon looked (halve (hi - lo) (now (t .entry) .rows) lo hi offset)) ⌝ }
+    ensures { λ r. ⌜ (r ≡ packed (upon looked (halve (hi - lo) (now (t .entry) .rows) lo hi offset))) × (now (into .exit) ≡ keptRow (now (t .entry) .rows) (halve (hi - lo) (now (t .entry) .rows) lo hi offset) (now (into .entry))) ⌝ }
 {
     if lo < hi {
         let mid = middle(lo, hi);
         let row = row_at(t, mid);
         let n = decide(row, lo, mid, hi, offset, looked);
         if n.more {
-            return search(t, n.lo, n.hi, offset, n.looked);
+            return search(t, n.lo, n.hi, offset, n.looked, into);
         }
+        *into = row;
         return n.code;
     }
     no_hit(looked)

@@ -3,6 +3,7 @@ use crate::halving;
 use crate::halving::Heading;
 use crate::halving::Hit;
 use lines::record::VmdkAccessType;
+use tables::build::no_row;
 use tables::table::Mapping;
 use tables::table::Row;
 use tables::table::ShallowMapping;
@@ -69,9 +70,9 @@ pub(crate) fn find(t: &Table, offset: u64) -> Found
 {
     let h = halving::head(t);
     let hi = span(h, offset);
-    let code = halving::search(t, 0, hi, offset, 0);
+    let mut row = no_row();
+    let code = halving::search(t, 0, hi, offset, 0, &mut row);
     let hit = halving::unpack(code);
-    let row = halving::row_at(t, hit.row);
     as_found(h, hit, row, offset)
 }
 

@@ -37,8 +37,8 @@ fn row(start: u64, end: u64, source: Source) -> Row
     }
 }
 
-// No access and zeros.
-fn no_row() -> Row
+// No access and zeros: what stands in a place that holds no row.
+pub fn no_row() -> Row
     ensures { λ r. ⌜ r ≡ noRow ⌝ }
 {
     row(0, 0, Source::NoAccess)

@@ -18,17 +18,16 @@ use Rattle.text.specs.declared.number.Num.the-variants.{Value, Bad}
 use Rattle.text.proofs.Flat.{by-test}
 use Rattle.keys.specs.declared.key.Geometry.{Geometry}
 use Rattle.keys.specs.declared.key.Geometry.the-variants.{Sectors, Heads, Cylinders}
-use Rattle.lines.specs.Record.{noDesc, recordOf}
+use Rattle.lines.specs.Record.{noDesc}
 use Rattle.lines.specs.Line.{versionLimit, versionBy, versionOf, geometryBy, geometryLine, geometryOf, valueOf, lineOf}
 use Rattle.descriptor.specs.Read.{setOf, readOf}
-use Rattle.descriptor.specs.declared.read.Read.{Read}
 use Rattle.lines.specs.declared.line.Setting.{Setting}
 use Rattle.lines.specs.declared.line.Setting.the-variants.{Version as Is·Version, Cid as Is·Cid, ParentCid as Is·ParentCid, CreateType as Is·CreateType, Sectors as Is·Sectors, Heads as Is·Heads, Cylinders as Is·Cylinders}
 use Rattle.lines.specs.declared.line.Said.{Said}
 use Rattle.lines.specs.declared.line.Said.the-variants.{Nothing, Extent, Set, Refused}
 use Rattle.lines.specs.declared.record.Verdict.the-variants.{Sound}
 use Rattle.lines.specs.declared.record.VmdkDesc.{VmdkDesc}
-use Rattle.theorems.specs.Statements.{LineAt, placeAfter, sayings, sayingsOf, extentsIn, refuses}
+use Rattle.theorems.specs.Statements.{LineAt, placeAfter, sayings, sayingsOf, refuses}
 use Rattle.theorems.specs.LineWords.{Item, version, cid, parent-cid, create-type, geometry, keyText, KeyLine}
 use Rattle.theorems.specs.Values.{Held, number, text, heldIn, startOf, meant, Holds, NoneHas, LastLine, LastSaid}
 use Rattle.theorems.proofs.Sayings.{setAll}

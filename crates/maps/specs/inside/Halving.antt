@@ -2,6 +2,7 @@
 use Prim.Native.Nat.{ℕ, _+_, _-_, _*_, _/_, _%_, _<_, _≤_, min}
 use mathlib.Core.Path.{_≡_}
 use mathlib.Core.Bool.{Bool, true, false, not}
+use mathlib.Core.List.{List}
 use lib.Dec.{leb, ltb}
 use lib.ListN.{getD}
 use Rattle.text.specs.Ranges.{pick}
@@ -30,6 +31,11 @@ upon k (nowhere n) = nowhere (k + n)
 abbrev pub packed : Search → ℕ
 packed (found i n) = n * 4096 + (i + 1)
 packed (nowhere n) = n * 4096
+
+-- the row that a search ended at; where it ended at none, what was there
+abbrev pub keptRow : List Row → Search → Row → Row
+keptRow rows (found i n) was = getD rows i noRow
+keptRow rows (nowhere n) was = was
 
 -- a search's end as a struct
 abbrev pub hitOf : Search → Hit
