@@ -1,17 +1,10 @@
-pub mod Item
-pub mod Plain
-pub mod Rows
-pub mod Held
 pub mod Halves
 pub mod Mappings
-pub mod Again
 pub mod Steps
 pub mod Put
 pub mod Runs
 pub mod Marks
 pub mod Lent
-pub mod Local
 pub mod LentTable
 pub mod Listings
 pub mod Searched
-pub mod LentLocal

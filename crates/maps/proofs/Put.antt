@@ -32,7 +32,7 @@ use denote.Triple.Walked.{says}
 use Rattle.tables.specs.declared.table.Piece.{Piece}
 use Rattle.tables.proofs.table.Piece as T
 use Rattle.tables.proofs.table.Piece.Laws as T′
-use Rattle.maps.proofs.Again.{LentAgain, lends-again, comes-back}
+use Rattle.lending.proofs.Again.{LentAgain, lends-again, comes-back}
 use Rattle.maps.proofs.stepping.put_piece as put
 use Rattle.maps.proofs.stepping.put_piece.Symbol.{name as #put-piece}
 

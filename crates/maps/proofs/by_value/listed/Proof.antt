@@ -49,8 +49,8 @@ use Rattle.tables.proofs.table.Walked as TW
 use Rattle.tables.proofs.table.Walked.Laws as TW′
 use Rattle.maps.proofs.by_value.Listing as TL
 use Rattle.maps.proofs.by_value.Listing.Laws as TL′
-use Rattle.maps.proofs.Plain.{asks, answers}
-use Rattle.maps.proofs.Local.{lends-array, array-back}
+use Rattle.lending.proofs.Plain.{asks, answers}
+use Rattle.lending.proofs.Local.{lends-array, array-back}
 use Rattle.maps.proofs.LentTable.{Lends, Kept, Cell, lends-table, table-back}
 use Rattle.maps.proofs.Lent.{WalkIn, to-walk, goes, comes}
 use Rattle.maps.proofs.Listings.{blanks-long, listing-is}

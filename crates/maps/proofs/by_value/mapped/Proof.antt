@@ -39,7 +39,7 @@ use Rattle.tables.proofs.table.Table as TT
 use Rattle.tables.proofs.table.Table.Laws as TT′
 use Rattle.tables.proofs.table.Mapping as TG
 use Rattle.tables.proofs.table.Mapping.Laws as TG′
-use Rattle.maps.proofs.Held.{alive-one, one-alive, own-first, asks-held, answers-held}
+use Rattle.lending.proofs.Held.{alive-one, one-alive, own-first, asks-held, answers-held}
 use Rattle.maps.proofs.LentTable.{Lends, Kept, Cell, lends-table, table-back}
 use Rattle.maps.proofs.mapping.get_mapping as get
 use Rattle.maps.proofs.mapping.get_mapping.Symbol as get-def

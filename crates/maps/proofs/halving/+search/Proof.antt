@@ -54,8 +54,8 @@ use Rattle.tables.proofs.table.Table as TT
 use Rattle.tables.proofs.table.Table.Laws as TT′
 use Rattle.maps.proofs.halving.Next as TN
 use Rattle.maps.proofs.halving.Next.Laws as TN′
-use Rattle.maps.proofs.Plain.{asks, answers}
-use Rattle.maps.proofs.Held.{alive-one, one-alive, own-first, asks-held, answers-held}
+use Rattle.lending.proofs.Plain.{asks, answers}
+use Rattle.lending.proofs.Held.{alive-one, one-alive, own-first, asks-held, answers-held}
 use Rattle.maps.proofs.Halves.{middle-in, next-narrow, look-on, look-hit, look-none, kept-on, kept-hit, kept-none, T-true, T-false}
 use Rattle.maps.proofs.Searched.{Search as Self, args, vals, code as codeOf, kept as keptOf, to-search, goes, comes}
 use Rattle.maps.proofs.halving.middle as middle

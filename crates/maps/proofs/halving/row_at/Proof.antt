@@ -44,8 +44,8 @@ use Rattle.tables.proofs.table.Row as R
 use Rattle.tables.proofs.table.Row.Laws as R′
 use Rattle.tables.proofs.table.Table as T
 use Rattle.tables.proofs.table.Table.Laws as T′
-use Rattle.maps.proofs.Item.{item, look-raw-in}
-use Rattle.maps.proofs.Rows.{each-at, val-at, long-at}
+use Rattle.lending.proofs.Item.{item, look-raw-in}
+use Rattle.lending.proofs.Rows.{each-at, val-at, long-at}
 use Rattle.maps.proofs.halving.row_at.Key.{name as #row-at}
 use Rattle.maps.proofs.halving.row_at as row′
 use Rattle.maps.proofs.halving.row_at.Statement as stated

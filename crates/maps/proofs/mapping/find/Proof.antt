@@ -53,10 +53,10 @@ use Rattle.maps.proofs.halving.Hit as TH
 use Rattle.maps.proofs.halving.Hit.Laws as TH′
 use Rattle.maps.proofs.mapping.Found as TF
 use Rattle.maps.proofs.mapping.Found.Laws as TF′
-use Rattle.maps.proofs.Plain.{asks, answers}
-use Rattle.maps.proofs.Held.{alive-one, one-alive, own-first, asks-held, answers-held}
+use Rattle.lending.proofs.Plain.{asks, answers}
+use Rattle.lending.proofs.Held.{alive-one, one-alive, own-first, asks-held, answers-held}
 use Rattle.maps.proofs.Halves.{span-most, ranOf, leftRow, end-back, end-held, end-found}
-use Rattle.maps.proofs.LentLocal.{Lends, Kept, Cell, lends-local, local-back}
+use Rattle.lending.proofs.LentLocal.{Lends, Kept, Cell, lends-local, local-back}
 use Rattle.maps.proofs.Searched.{Search, to-search, goes, comes}
 use Rattle.maps.proofs.halving.head as head
 use Rattle.maps.proofs.halving.head.Symbol as head-def

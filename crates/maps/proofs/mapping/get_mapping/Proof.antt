@@ -45,8 +45,8 @@ use Rattle.maps.proofs.mapping.Found as TF
 use Rattle.maps.proofs.mapping.Found.Laws as TF′
 use Rattle.tables.proofs.table.Mapping as TM
 use Rattle.tables.proofs.table.Mapping.Laws as TM′
-use Rattle.maps.proofs.Plain.{asks, answers}
-use Rattle.maps.proofs.Held.{alive-one, one-alive, own-first, asks-held, answers-held}
+use Rattle.lending.proofs.Plain.{asks, answers}
+use Rattle.lending.proofs.Held.{alive-one, one-alive, own-first, asks-held, answers-held}
 use Rattle.maps.proofs.Halves.{map-is}
 use Rattle.maps.proofs.mapping.find as find
 use Rattle.maps.proofs.mapping.find.Symbol as find-def

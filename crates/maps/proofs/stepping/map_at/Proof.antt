@@ -56,8 +56,8 @@ use Rattle.maps.proofs.stepping.Stand as TS
 use Rattle.maps.proofs.stepping.Stand.Laws as TS′
 use Rattle.maps.proofs.stepping.Mark as TM
 use Rattle.maps.proofs.stepping.Mark.Laws as TM′
-use Rattle.maps.proofs.Plain.{asks, answers}
-use Rattle.maps.proofs.Held.{alive-one, one-alive, own-first, asks-held, answers-held}
+use Rattle.lending.proofs.Plain.{asks, answers}
+use Rattle.lending.proofs.Held.{alive-one, one-alive, own-first, asks-held, answers-held}
 use Rattle.maps.proofs.Halves.{T-true, T-false, map-is}
 use Rattle.maps.proofs.Runs.{map-meant}
 use Rattle.maps.proofs.mapping.find as find

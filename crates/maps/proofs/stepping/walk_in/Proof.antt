@@ -65,8 +65,8 @@ use Rattle.maps.proofs.stepping.Mark as TM
 use Rattle.maps.proofs.stepping.Mark.Laws as TM′
 use Rattle.tables.proofs.table.Walked as TW
 use Rattle.tables.proofs.table.Walked.Laws as TW′
-use Rattle.maps.proofs.Plain.{asks, answers}
-use Rattle.maps.proofs.Held.{alive-one, one-alive, own-first, asks-held, answers-held}
+use Rattle.lending.proofs.Plain.{asks, answers}
+use Rattle.lending.proofs.Held.{alive-one, one-alive, own-first, asks-held, answers-held}
 use Rattle.maps.proofs.Put.{Put, After, puts}
 use Rattle.maps.proofs.Marks.{Ending, endOf, Sound, stand-stands, begin-stands, map-follows, step-sound, begin-sound, start-is, turn-is, over-is, walk-most, whole-is}
 use Rattle.maps.proofs.stepping.put_piece.Symbol as put-def

@@ -47,7 +47,7 @@ use Rattle.tables.proofs.table.Piece as TP
 use Rattle.tables.proofs.table.Table as TT
 use Rattle.tables.proofs.table.Walked as TW
 use Rattle.tables.proofs.table.Walked.Laws as TW′
-use Rattle.maps.proofs.Again.{LentAgain, lends-again, comes-back}
+use Rattle.lending.proofs.Again.{LentAgain, lends-again, comes-back}
 use Rattle.maps.proofs.Lent.{WalkIn, to-walk, goes, comes}
 use Rattle.maps.proofs.Marks.{walk-room}
 use Rattle.maps.proofs.stepping.walk_in.Symbol as walk-in-def

@@ -52,8 +52,8 @@ use Rattle.tables.proofs.table.Mapping as TG
 use Rattle.tables.proofs.table.Mapping.Laws as TG′
 use Rattle.timing.proofs.map.Tally as TK
 use Rattle.timing.proofs.map.Tally.Laws as TK′
-use Rattle.maps.proofs.Plain.{asks, answers}
-use Rattle.maps.proofs.Held.{alive-one, one-alive, own-first, asks-held, answers-held}
+use Rattle.lending.proofs.Plain.{asks, answers}
+use Rattle.lending.proofs.Held.{alive-one, one-alive, own-first, asks-held, answers-held}
 use Rattle.timing.proofs.Turns.{Going, first-going, turn-going, going-steady, sumFrom, sum-turn, sum-done, near}
 use Rattle.maps.proofs.mapping.get_mapping as get
 use Rattle.maps.proofs.mapping.get_mapping.Symbol as get-def

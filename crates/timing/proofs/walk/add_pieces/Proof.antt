@@ -55,7 +55,7 @@ use Rattle.tables.proofs.table.Piece as TP
 use Rattle.tables.proofs.table.Piece.Laws as TP′
 use Rattle.timing.proofs.walk.Adding as TK
 use Rattle.timing.proofs.walk.Adding.Laws as TK′
-use Rattle.maps.proofs.Plain.{asks, answers}
+use Rattle.lending.proofs.Plain.{asks, answers}
 use Rattle.timing.proofs.Tours.{Adds, restSum, adds-first, rest-first, adds-short, adds-next, inside, rest-next, rest-done, nearer}
 use Rattle.timing.proofs.walk.start_adding as start
 use Rattle.timing.proofs.walk.start_adding.Symbol as start-def

@@ -60,8 +60,8 @@ use Rattle.tables.proofs.table.Walked as TW
 use Rattle.tables.proofs.table.Walked.Laws as TW′
 use Rattle.timing.proofs.walk.Tour as TK
 use Rattle.timing.proofs.walk.Tour.Laws as TK′
-use Rattle.maps.proofs.Plain.{asks, answers}
-use Rattle.maps.proofs.Local.{lends-array, array-back}
+use Rattle.lending.proofs.Plain.{asks, answers}
+use Rattle.lending.proofs.Local.{lends-array, array-back}
 use Rattle.timing.proofs.LentList.{Walks, to-walk, goes, comes, Adds, to-add, goes-add, comes-add}
 use Rattle.timing.proofs.Turns.{near}
 use Rattle.timing.proofs.Tours.{blanks-long, Going, first-going, turn-going, going-ready, sumFrom, sum-turn, sum-done, written-fits, tour-adds}

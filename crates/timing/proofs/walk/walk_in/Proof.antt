@@ -37,7 +37,7 @@ use Rattle.tables.specs.declared.table.Table.{Table}
 use Rattle.timing.specs.Walk.{walkSum}
 use Rattle.tables.proofs.table.Table as TT
 use Rattle.tables.proofs.table.Table.Laws as TT′
-use Rattle.maps.proofs.Held.{alive-one, one-alive, own-first, asks-held, answers-held}
+use Rattle.lending.proofs.Held.{alive-one, one-alive, own-first, asks-held, answers-held}
 use Rattle.maps.proofs.LentTable.{Lends, Kept, Cell, lends-table, table-back}
 use Rattle.timing.proofs.walk.tours as tours
 use Rattle.timing.proofs.walk.tours.Symbol as tours-def

@@ -1,0 +1,9 @@
+pub mod Again
+pub mod Held
+pub mod Item
+pub mod LentLocal
+pub mod Literals
+pub mod Local
+pub mod Parts
+pub mod Plain
+pub mod Rows
