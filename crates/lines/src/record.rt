@@ -51,11 +51,14 @@ pub struct VmdkDesc {
     pub cylinders: u64,
 }
 
+// How many extents a record has room for, and rows a table: `most` of specs/.
+pub const MOST: usize = 128;
+
 // A descriptor that was read: its values, the number of its extents, and the extents. Places past the count are no access and zeros.
 pub struct Record {
     pub desc: VmdkDesc,
     pub count: usize,
-    pub extents: [VmdkParsedExtent; 128],
+    pub extents: [VmdkParsedExtent; MOST],
 }
 
 // Why an input is refused: document 01's number, and its second number.
