@@ -66,17 +66,39 @@ fn each(turns: u64, act: fn(u64)) -> f64 {
     (nanoseconds() - start) as f64 / turns as f64
 }
 
-/// Multiplications, each of which waits for the one before: 3 cycles, on the x86-64 processors of the last ten years.
+/// Multiplications, each of which waits for the one before: 3 cycles, on the x86-64 processors of the last ten years. (On Arm, where they take 3 or 4, three
+/// additions in a row.)
 fn multiplications(turns: u64) {
     // Safe: it changes its two registers and the flags
+    #[cfg(target_arch = "x86_64")]
     unsafe {
         asm!("2:", "imul {x}, {x}", "dec {n}", "jnz 2b", x = inout(reg) 3u64 => _, n = inout(reg) turns => _)
+    }
+    #[cfg(target_arch = "aarch64")]
+    unsafe {
+        asm!(
+            "2:", "add {x}, {x}, #1", "add {x}, {x}, #1", "add {x}, {x}, #1", "subs {n}, {n}, #1", "b.ne 2b",
+            x = inout(reg) 3u64 => _, n = inout(reg) turns => _
+        )
     }
 }
 
 /// Turns of 16 additions that hardly wait for each other: as many at a time as the core can do.
 fn additions(turns: u64) {
     // Safe: it changes its registers and the flags
+    #[cfg(target_arch = "aarch64")]
+    unsafe {
+        asm!(
+            "2:",
+            "add {a}, {a}, #1", "add {b}, {b}, #1", "add {c}, {c}, #1", "add {d}, {d}, #1", "add {e}, {e}, #1", "add {f}, {f}, #1", "add {g}, {g}, #1", "add {h}, {h}, #1",
+            "add {a}, {a}, #1", "add {b}, {b}, #1", "add {c}, {c}, #1", "add {d}, {d}, #1", "add {e}, {e}, #1", "add {f}, {f}, #1", "add {g}, {g}, #1", "add {h}, {h}, #1",
+            "subs {n}, {n}, #1", "b.ne 2b",
+            a = inout(reg) 0u64 => _, b = inout(reg) 0u64 => _, c = inout(reg) 0u64 => _, d = inout(reg) 0u64 => _,
+            e = inout(reg) 0u64 => _, f = inout(reg) 0u64 => _, g = inout(reg) 0u64 => _, h = inout(reg) 0u64 => _,
+            n = inout(reg) turns => _
+        )
+    }
+    #[cfg(target_arch = "x86_64")]
     unsafe {
         asm!(
             "2:",
