@@ -38,12 +38,7 @@ pub mod Sequences
 pub mod Shared
 pub mod Spellings
 pub mod Theorems
-pub mod TheoremsOfPlaces
-pub mod TheoremsOfReading
-pub mod TheoremsOfRefusals
-pub mod TheoremsOfReport
 pub mod TheoremsOfText
-pub mod TheoremsOfValues
 pub mod Tiles
 pub mod Tiling
 pub mod Totals

@@ -35,49 +35,49 @@ use Rattle.theorems.proofs.Versions.{version-set, last-refused}
 
 -- what an extent can have above 2^64-1, and the number of the refusal
 pub data Excess : Type 0 where
-  size : Excess
-  sum : Excess
-  start : Excess
+  size-over : Excess
+  sum-over : Excess
+  start-over : Excess
 
 abbrev pub numberOf : Excess → ℕ
-numberOf size = 18
-numberOf sum = 19
-numberOf start = 20
+numberOf size-over = 18
+numberOf sum-over = 19
+numberOf start-over = 20
 
 abbrev pub OverBy : Excess → ℕ → VmdkParsedExtent → Type 0
-OverBy size = SizeOver
-OverBy sum = SumOver
-OverBy start = StartOver
+OverBy size-over = SizeOver
+OverBy sum-over = SumOver
+OverBy start-over = StartOver
 
 -- the number tells which
 abbrev excessOf : ℕ → Excess
-excessOf n = pick (leb n 18) size (pick (leb n 19) sum start)
+excessOf n = pick (leb n 18) size-over (pick (leb n 19) sum-over start-over)
 
 number-tells : (e : Excess) → excessOf (numberOf e) ≡ e
-number-tells size = refl
-number-tells sum = refl
-number-tells start = refl
+number-tells size-over = refl
+number-tells sum-over = refl
+number-tells start-over = refl
 
 excess-in : (e : Excess) → (18 ≤ numberOf e) × (numberOf e ≤ 20)
-excess-in size = omega arith
-excess-in sum = omega arith
-excess-in start = omega arith
+excess-in size-over = omega arith
+excess-in sum-over = omega arith
+excess-in start-over = omega arith
 
 -- ---- one extent, where a test says of its source whether the file start fits
 module _ (test : VmdkParsedStorage → Bool) where
   abbrev pub OverIf : Excess → ℕ → VmdkParsedExtent → Type 0
-  OverIf size s x = SizeOver s x
-  OverIf sum s x = SumOver s x
-  OverIf start s x = (s + bytesIn x ≤ largest) × (test (x .storage) ≡ false)
+  OverIf size-over s x = SizeOver s x
+  OverIf sum-over s x = SumOver s x
+  OverIf start-over s x = (s + bytesIn x ≤ largest) × (test (x .storage) ≡ false)
 
   abbrev one : ℕ → ℕ → VmdkParsedExtent → Verdict → Verdict
   one i s x go =
       pick (leb (bytesIn x) largest) (pick (leb (s + bytesIn x) largest) (pick (test (x .storage)) go (refusal 20 i)) (refusal 19 i)) (refusal 18 i)
 
   one-over : (e : Excess) (i s : ℕ) (x : VmdkParsedExtent) (go : Verdict) → OverIf e s x → one i s x go ≡ refusal (numberOf e) i
-  one-over size i s x go h = rw (lt-leb _ _ h)
-  one-over sum i s x go h = rw (le-leb _ _ (h .0), lt-leb _ _ (h .1))
-  one-over start i s x go h = let a : bytesIn x ≤ largest = omega arith in rw (le-leb _ _ a, le-leb _ _ (h .0), h .1)
+  one-over size-over i s x go h = rw (lt-leb _ _ h)
+  one-over sum-over i s x go h = rw (le-leb _ _ (h .0), lt-leb _ _ (h .1))
+  one-over start-over i s x go h = let a : bytesIn x ≤ largest = omega arith in rw (le-leb _ _ a, le-leb _ _ (h .0), h .1)
 
   one-fits : (i s : ℕ) (x : VmdkParsedExtent) (go : Verdict) → s + bytesIn x ≤ largest → test (x .storage) ≡ true → one i s x go ≡ go
   one-fits i s x go h t = let a : bytesIn x ≤ largest = omega arith in rw (le-leb _ _ a, le-leb _ _ h, t)
@@ -87,9 +87,9 @@ module _ (test : VmdkParsedStorage → Bool) where
   one-way s x f g =
       by-test (leb (bytesIn x) largest)
       (λ a. by-test (leb (s + bytesIn x) largest)
-      (λ b. by-test (test (x .storage)) (λ c. g (leb-true _ _ b) c) (λ c. f start (leb-true _ _ b, c)))
-      (λ b. f sum (leb-true _ _ a, leb-false _ _ b)))
-      (λ a. f size (leb-false _ _ a))
+      (λ b. by-test (test (x .storage)) (λ c. g (leb-true _ _ b) c) (λ c. f start-over (leb-true _ _ b, c)))
+      (λ b. f sum-over (leb-true _ _ a, leb-false _ _ b)))
+      (λ a. f size-over (leb-false _ _ a))
 
   -- ---- extent by extent
   unfoldable pub scan : ℕ → ℕ → List VmdkParsedExtent → Verdict
@@ -303,9 +303,9 @@ module _ (d : List ℕ) where
       few (f .excess) _ _ (f .number) (f .over)
     where
       few : (e : Excess) (s : ℕ) (x : VmdkParsedExtent) → numberOf e ≡ n → OverIf unread e s x → n ≤ 19
-      few size s x z o = omega arith
-      few sum s x z o = omega arith
-      few start s x z o = let g : true ≡ false = o .1 in let y : _≡_ {A = ℕ} 0 1 = cc in absurd (omega arith)
+      few size-over s x z o = omega arith
+      few sum-over s x z o = omega arith
+      few start-over s x z o = let g : true ≡ false = o .1 in let y : _≡_ {A = ℕ} 0 1 = cc in absurd (omega arith)
 
   pub read-few : (n k : ℕ) → readOf d .verdict ≡ refusal n k → (1 ≤ n) × (n ≤ 19)
   read-few n k q =
@@ -339,14 +339,14 @@ module _ (r : Record) where
       ))
     where
       by-fits : (e : Excess) (s : ℕ) (x : VmdkParsedExtent) → OverIf fits e s x → OverBy e s x
-      by-fits size s x h = h
-      by-fits sum s x h = h
-      by-fits start s x h = (h .0, fits-false (x .storage) .0 (h .1))
+      by-fits size-over s x h = h
+      by-fits sum-over s x h = h
+      by-fits start-over s x h = (h .0, fits-false (x .storage) .0 (h .1))
 
       fits-by : (e : Excess) (s : ℕ) (x : VmdkParsedExtent) → OverBy e s x → OverIf fits e s x
-      fits-by size s x h = h
-      fits-by sum s x h = h
-      fits-by start s x h = (h .0, fits-false (x .storage) .1 (h .1))
+      fits-by size-over s x h = h
+      fits-by sum-over s x h = h
+      fits-by start-over s x h = (h .0, fits-false (x .storage) .1 (h .1))
 
   pub build-sound : (buildOf r .verdict ≡ Sound) ↔ ((r .count ≤ most) × (sizeOf (counted r) ≤ largest) × StartsFit (counted r))
   build-sound = build-by
