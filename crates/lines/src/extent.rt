@@ -163,7 +163,12 @@ pub(crate) fn no_access_from_descriptor_line(t: &[u8], end: usize) -> Said
 }
 
 // Parse an extent descriptor line whose first word is RW or RDONLY and ends at a place of it.
-pub(crate) fn try_from_descriptor_line(access: VmdkAccessType, t: &[u8], end: usize, place: usize) -> Said
+pub(crate) fn try_from_descriptor_line(
+    access: VmdkAccessType,
+    t: &[u8],
+    end: usize,
+    place: usize,
+) -> Said
     requires { ⌜ place + length (now t) ≤ 2097152 ⌝ }
     ensures { λ r. ⌜ r ≡ extentLine access place (now (t .entry)) end ⌝ }
 {

@@ -2,13 +2,30 @@
 // the whole answer, within 2^64-1.
 ghost use mathlib.Core.Path.{_≡_};
 ghost use Rattle.puts.specs.Put.{pasted, after, Put};
-ghost use Rattle.report.specs.Command.{answerOf};
+ghost use Prim.Native.Nat.{_+_};
+ghost use lib.ListN.{length};
+ghost use Rattle.report.specs.Command.{mostInput, answerOf};
+ghost use Rattle.report.specs.Room.{room};
 use crate::command::Command;
 use disk_lines::whole::put_report;
 use lines::record::Refusal;
 use map_lines::map::put_map;
 use phrases::line::refused_line;
 use walk_lines::walk::put_walk;
+
+// Room for the input, and for one byte more, by which an input that is too long is told.
+pub fn input_space() -> [u8; 65537]
+    ensures { λ r. ⌜ mostInput + 1 ≡ length r ⌝ }
+{
+    [0; 65537]
+}
+
+// Room for any answer: that no answer is longer is a theorem (`answer-fits`).
+pub fn answer_space() -> [u8; 81920]
+    ensures { λ r. ⌜ room ≡ length r ⌝ }
+{
+    [0; 81920]
+}
 
 // Puts what the program answers to some input.
 fn put_answer(d: &[u8], asked: Command, out: &mut [u8]) -> usize

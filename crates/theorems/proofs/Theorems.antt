@@ -91,7 +91,7 @@ use Rattle.theorems.proofs.Over.{size-over, sum-over, start-over, read-
 use Rattle.theorems.proofs.MapRefusals.{map-locked, map-over, map-counted, map-numbers, walk-met, walk-locked, walk-file-over, walk-counted, walk-numbers}
 
 -- ---- reading
--- An accepted descriptor's extents are those that its lines say, in order, and at most 128 ..
+-- An accepted descriptor's extents are those that its lines say, in order, and at most as many as a record has room for.
 pub extents-in-order : (t : List ℕ) → readOf t .verdict ≡ Sound → (counted (readOf t .descriptor) ≡ extentsIn (sayingsOf t)) × (length (extentsIn (sayingsOf t)) ≤ most)
 extents-in-order t e = (accepted-extents t e, accepted-lines t e .1 .1)
 
@@ -99,7 +99,7 @@ extents-in-order t e = (accepted-extents t e, accepted-lines t e .1 .1)
 pub extent-lines : (d : List ℕ) (before : List (List ℕ)) (l : List ℕ) (p k : ℕ) (x : VmdkParsedExtent) → LineAt d before l p k → (lineOf p l ≡ Extent x) ↔ (ExtentIn d (trimmed l) x × NameAt p l (x .storage))
 extent-lines d before l p k x a = extent-exactly d p l (lies d before l p k a) x
 
--- .. and the name of its file is, in the descriptor, the trimmed text between the line's first two quotes.
+-- The name of a flat extent's file is, in the descriptor, the trimmed text between the line's first two quotes.
 pub extent-name : (t : List ℕ) (before : List (List ℕ)) (l : List ℕ) (p k : ℕ) (s : Sectors) (a : VmdkAccessType) (name : Text) (start : Sectors) → LineAt t before l p k → lineOf p l ≡ Extent (record { sectors = s; storage = Parsed·Flat a name start }) → (front middle back : List ℕ) × Quotes l front middle back × (textIn t name ≡ trimmed middle)
 extent-name t before l p k s a name start i h = file-named t p l s a name start (lies t before l p k i) h
 
@@ -175,7 +175,7 @@ halving-looks = few-looks
 pub mapping-places : (r : Record) (t : Table) → Builds r t → (o asked : ℕ) → MapsBy (counted r) t o asked
 mapping-places = built-maps
 
--- The same for bytes: for any descriptor that reads and whose record builds, mapping equals the place that its extent lines give, ..
+-- The same for bytes: for any descriptor that reads and whose record builds, mapping equals the place that its extent lines give.
 pub mapping-places-bytes : (d : List ℕ) (t : Table) → readOf d .verdict ≡ Sound → Builds (readOf d .descriptor) t → (o asked : ℕ) → MapsBy (extentsIn (sayingsOf d)) t o asked
 mapping-places-bytes d t a b o asked =
     subst (λ (xs : List VmdkParsedExtent). MapsBy xs t o asked) (extents-in-order d a .0) (mapping-places (readOf d .descriptor) t b o asked)
@@ -185,11 +185,11 @@ pub mapping-names : (d : List ℕ) (t : Table) → readOf d .verdict ≡ Sound �
 mapping-names d t a b o asked = maps-named d t a b o asked (mapping-places-bytes d t a b o asked)
 
 -- ---- demand 3, and the walk
--- Demand 3. Take any built table in which each flat extent's file start plus its length is at most 2^64. A walk over any range, given 128 list places, writes pieces that tile the range up to the first of its end, the disk's end and a no-access byte, each byte at the place that the extents give it, with one piece for each non-empty readable extent met and no shorter tiling by single-extent pieces. The walk looks at no more than 8 rows a piece and 8 besides.
+-- Demand 3. Take any built table in which each flat extent's file start plus its length is at most 2^64. A walk over any range, given as many list places as a table has room for rows, writes pieces that tile the range up to the first of its end, the disk's end and a no-access byte, each byte at the place that the extents give it, with one piece for each non-empty readable extent met and no shorter tiling by single-extent pieces. The walk looks at no more than 8 rows a piece and 8 besides.
 pub demand-3 : (r : Record) (t : Table) → Builds r t → Reachable (counted r) → (places start long : ℕ) → most ≤ places → Tiles (counted r) start long (walkOf t places start long)
 demand-3 = built-tiles
 
--- .. and a walk tiles any range, each byte at the place that the extent lines give it.
+-- The same for bytes: a walk tiles any range, each byte at the place that the extent lines give it.
 pub demand-3-bytes : (d : List ℕ) (t : Table) → readOf d .verdict ≡ Sound → Builds (readOf d .descriptor) t → Reachable (extentsIn (sayingsOf d)) → (places start long : ℕ) → most ≤ places → Tiles (extentsIn (sayingsOf d)) start long (walkOf t places start long)
 demand-3-bytes d t a b h places start long m =
     let e = extents-in-order d a .0 in
@@ -213,7 +213,7 @@ extents-met = met-is
 pub walk-only-counted : (t : Table) (list : List Piece) (pos left : ℕ) → OnlyCounted t list pos left
 walk-only-counted = only-counted
 
--- Continuing after More at the position given, with the length still left, joins to the list that one long walk writes, for any way of cutting it, on any table. With lists of at least one place each, 129 of them are enough.
+-- Continuing after More at the position given, with the length still left, joins to the list that one long walk writes, for any way of cutting it, on any table. With lists of at least one place each, one more of them than a table has room for rows are enough.
 pub continuing-joins : (t : Table) (n : ℕ) (ns : List ℕ) (pos left : ℕ) → Continues t n ns pos left
 continuing-joins = continues
 
@@ -221,7 +221,7 @@ continuing-joins = continues
 pub continuing-whole : (r : Record) (t : Table) → Builds r t → (n : ℕ) (ns : List ℕ) (pos left : ℕ) → ContinuesWhole t n ns pos left
 continuing-whole = built-continues
 
--- The marked cases of document 01 on building, mapping and the walk (K1 to K6, K9 to K11), and more beside them: each gives what is due.
+-- The marked cases of document 01, K1 to K12, and more beside them, as one table: each gives what is due.
 pub marked-cases : map (λ (c : Case). c .got) cases ≡ map (λ (c : Case). c .due) cases
 marked-cases = cases-due
 
@@ -278,7 +278,7 @@ names-within = accepted-names
 pub walk-once : (r : Record) (t : Table) → Builds r t → (places start long : ℕ) → Rise 0 (rowsOf (walkOf t places start long .pieces))
 walk-once = built-rises
 
--- Each answer has at most as many bytes as the longest input, 100 more for each row that a table can have, and 200 besides ..
+-- Each answer has at most as many bytes as the longest input, `rowMost` more for each row that a table can have, and `headMost` besides ..
 pub answer-most : (d : List ℕ) (c : Command) → Asked c → length (answerOf d c) ≤ mostInput + most * rowMost + headMost
 answer-most = answer-bound
 

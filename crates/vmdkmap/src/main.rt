@@ -1,26 +1,11 @@
 // vmdkmap: reads a VMDK descriptor on standard input, and writes what its disk is made of, or what lies at an offset of it.
 //
 // All answers are `report`'s, which are proved. Here bytes are read and written.
-ghost use mathlib.Core.Path.{_≡_};
-ghost use lib.ListN.{length};
 use report::answer::answer;
+use report::answer::answer_space;
+use report::answer::input_space;
 use report::command::Command;
 use report::command::read_command;
-
-// Room for the input, and for one byte more, by which an input that is too long is told.
-fn input_buffer() -> [u8; 65537]
-    ensures { λ r. ⌜ 65537 ≡ length r ⌝ }
-{
-    [0; 65537]
-}
-
-// Room for the answer. Each name stands in the input once, and a row or a piece is written once: so an answer to 65,536 bytes has at
-// most these, and for each of at most 128 rows or pieces less than 100 bytes more, and less than 200 before or after them.
-fn output_buffer() -> [u8; 81920]
-    ensures { λ r. ⌜ 81920 ≡ length r ⌝ }
-{
-    [0; 81920]
-}
 
 // How many arguments there are, without the program's own name.
 fn arguments() -> usize {
@@ -103,13 +88,13 @@ fn respond(d: &[u8], asked: Command, out: &mut [u8]) {
 
 // Reads the input and writes the answer.
 fn run(asked: Command) {
-    let mut input = input_buffer();
+    let mut input = input_space();
     let n = io::read_full(0, &mut input);
     if !is_whole(n) {
         os::fail(b"vmdkmap: standard input");
         return;
     }
-    let mut out = output_buffer();
+    let mut out = answer_space();
     respond(&input[..n], asked, &mut out);
 }
 

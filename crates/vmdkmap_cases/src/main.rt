@@ -2,26 +2,12 @@
 //
 // A case is a line: a file of data/, and the program's arguments. The output that goes with the list is made by compare/texts.py,
 // which takes the answers from compare/paper.py.
-ghost use mathlib.Core.Path.{_≡_};
-ghost use lib.ListN.{length};
 use report::answer::answer;
+use report::answer::answer_space;
+use report::answer::input_space;
 use report::command::Command;
 use report::command::read_command;
 use text::words::Word;
-
-// Room for a file, and for one byte more, by which an input that is too long is told.
-fn input_buffer() -> [u8; 65537]
-    ensures { λ r. ⌜ 65537 ≡ length r ⌝ }
-{
-    [0; 65537]
-}
-
-// Room for the answer.
-fn output_buffer() -> [u8; 81920]
-    ensures { λ r. ⌜ 81920 ≡ length r ⌝ }
-{
-    [0; 81920]
-}
 
 // The next word of a line from a place on, empty where there is none.
 fn word(l: &[u8], from: usize) -> &[u8] {
@@ -79,9 +65,9 @@ fn respond(d: &[u8], asked: Command, out: &mut [u8]) {
 
 // Writes the answer to a file.
 fn run(fd: i32, asked: Command) {
-    let mut input = input_buffer();
+    let mut input = input_space();
     let n = io::read_full(fd, &mut input);
-    let mut out = output_buffer();
+    let mut out = answer_space();
     respond(&input[..n], asked, &mut out);
 }
 
