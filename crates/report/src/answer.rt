@@ -3,7 +3,7 @@
 ghost use mathlib.Core.Path.{_≡_};
 ghost use Rattle.puts.specs.Put.{pasted, after, Put};
 ghost use Prim.Native.Nat.{_+_};
-ghost use lib.ListN.{length};
+ghost use lib.ListN.{length, replicate};
 ghost use Rattle.report.specs.Command.{mostInput, answerOf};
 ghost use Rattle.report.specs.Room.{room};
 use crate::command::Command;
@@ -15,6 +15,7 @@ use walk_lines::walk::put_walk;
 
 // Room for the input, and for one byte more, by which an input that is too long is told.
 pub fn input_space() -> [u8; 65537]
+    ensures { λ r. ⌜ r ≡ replicate (mostInput + 1) 0 ⌝ }
     ensures { λ r. ⌜ mostInput + 1 ≡ length r ⌝ }
 {
     [0; 65537]
@@ -22,6 +23,7 @@ pub fn input_space() -> [u8; 65537]
 
 // Room for any answer: that no answer is longer is a theorem (`answer-fits`).
 pub fn answer_space() -> [u8; 81920]
+    ensures { λ r. ⌜ r ≡ replicate room 0 ⌝ }
     ensures { λ r. ⌜ room ≡ length r ⌝ }
 {
     [0; 81920]
