@@ -14,15 +14,21 @@ use phrases::line::refused_line;
 use walk_lines::walk::put_walk;
 
 // Room for the input, and for one byte more, by which an input that is too long is told.
-pub fn input_space() -> [u8; 65537]
+pub type InputSpace = [u8; 65537];
+
+// Room for any answer: that no answer is longer is a theorem (`answer-fits`).
+pub type AnswerSpace = [u8; 81920];
+
+// Room for the input, blank.
+pub fn input_space() -> InputSpace
     ensures { λ r. ⌜ r ≡ replicate (mostInput + 1) 0 ⌝ }
     ensures { λ r. ⌜ mostInput + 1 ≡ length r ⌝ }
 {
     [0; 65537]
 }
 
-// Room for any answer: that no answer is longer is a theorem (`answer-fits`).
-pub fn answer_space() -> [u8; 81920]
+// Room for any answer, blank.
+pub fn answer_space() -> AnswerSpace
     ensures { λ r. ⌜ r ≡ replicate room 0 ⌝ }
     ensures { λ r. ⌜ room ≡ length r ⌝ }
 {

@@ -185,7 +185,7 @@ pub mapping-names : (d : List ℕ) (t : Table) → readOf d .verdict ≡ Sound �
 mapping-names d t a b o asked = maps-named d t a b o asked (mapping-places-bytes d t a b o asked)
 
 -- ---- demand 3, and the walk
--- Demand 3. Take any built table in which each flat extent's file start plus its length is at most 2^64. A walk over any range, given as many list places as a table has room for rows, writes pieces that tile the range up to the first of its end, the disk's end and a no-access byte, each byte at the place that the extents give it, with one piece for each non-empty readable extent met and no shorter tiling by single-extent pieces. The walk looks at no more than 8 rows a piece and 8 besides.
+-- Demand 3. Take any built table in which each flat extent's file start plus its length is at most 2^64. A walk over any range, given as many list places as a table has room for rows, writes pieces that tile the range up to the first of its end, the disk's end and a no-access byte, each byte at the place that the extents give it, with one piece for each non-empty readable extent met and no shorter tiling by single-extent pieces. It stops with refusal 21 exactly if a no-access byte lies in the range, and otherwise with Done. The walk looks at no more than 8 rows a piece and 8 besides.
 pub demand-3 : (r : Record) (t : Table) → Builds r t → Reachable (counted r) → (places start long : ℕ) → most ≤ places → Tiles (counted r) start long (walkOf t places start long)
 demand-3 = built-tiles
 
