@@ -4,7 +4,7 @@
     docs/believed.py            a row for each file of specs/ that must be believed, with its lines; then what stands in the wrong place
     docs/believed.py --names    the names too
 
-A definition must be believed if the contract of an exported function names it, or a theorem of a page (crates/theorems/proofs/Theorems*.antt),
+A definition must be believed if the contract of an exported function names it, or a theorem of a page (crates/*/proofs/Theorems*.antt),
 or another definition that must be believed. All others only say how the code goes: they stand in `specs/inside/`. Exit 1 where one of
 either kind stands with the other.
 """
@@ -65,7 +65,7 @@ for lib in glob.glob("crates/*/src/lib.rt") + glob.glob("crates/*/src/main.rt"):
             for w in WORD.findall(" ".join(re.findall(r"(?:ensures|requires) .*", m.group(0)))):
                 if w in known:
                     roots.add(known[w])
-for path in glob.glob("crates/theorems/proofs/Theorems*.antt"):
+for path in glob.glob("crates/*/proofs/Theorems*.antt"):
     text = open(path, encoding="utf-8").read()
     known = imports(text, "")
     for line in re.findall(r"^pub \S+ :.*", text, re.M):

@@ -133,18 +133,6 @@ probed-not-accepted t = probe-refused t
 pub rows-follow : (r : Record) (t : Table) → Builds r t → InRows r t
 rows-follow = built-in-rows
 
--- For any descriptor that reads and whose record builds, row i is the i-th line that says an extent: its words are the extent's, its source is the row's, and where it is flat its name is the row's.
-pub row-from-line : (d : List ℕ) (t : Table) → readOf d .verdict ≡ Sound → Builds (readOf d .descriptor) t → (i : ℕ) → i < t .count → FromLine d t i
-row-from-line = from-line
-
--- Each line that says an extent has its row.
-pub line-has-row : (d : List ℕ) (t : Table) → readOf d .verdict ≡ Sound → Builds (readOf d .descriptor) t → (before : List (List ℕ)) (l : List ℕ) (p k : ℕ) → LineAt d before l p k → (x : VmdkParsedExtent) → lineOf p l ≡ Extent x → length (extentsIn (sayings 0 before)) < t .count
-line-has-row = row-below
-
--- Where a line is cut at its first two quotes, the text between them is the middle.
-pub between-quotes : (l front middle back : List ℕ) → Quotes l front middle back → inQuotes l ≡ middle
-between-quotes = quotes-in
-
 -- Building succeeds exactly if the count is within the record's room, the sum of the sizes is within 2^64-1, and so is every file start in bytes.
 pub built-when : (r : Record) → (buildOf r .verdict ≡ Sound) ↔ ((r .count ≤ most) × (sizeOf (counted r) ≤ largest) × StartsFit (counted r))
 built-when = build-sound
@@ -157,7 +145,19 @@ refused-no-table = emptied-build
 pub sound-builds : (r : Record) → buildOf r .verdict ≡ Sound → Builds r (buildOf r .table)
 sound-builds = sound-build
 
--- ---- places with names: the place that the descriptor's own lines give to each byte of the disk (`placeIn`), at the joints of a small disk
+-- ---- places with names: which line a row is, and the place that the descriptor's own lines give to each byte of the disk (`placeIn`)
+-- For any descriptor that reads and whose record builds, row i is the i-th line that says an extent: its words are the extent's, its source is the row's, and where it is flat its name is the row's.
+pub row-from-line : (d : List ℕ) (t : Table) → readOf d .verdict ≡ Sound → Builds (readOf d .descriptor) t → (i : ℕ) → i < t .count → FromLine d t i
+row-from-line = from-line
+
+-- Each line that says an extent has its row.
+pub line-has-row : (d : List ℕ) (t : Table) → readOf d .verdict ≡ Sound → Builds (readOf d .descriptor) t → (before : List (List ℕ)) (l : List ℕ) (p k : ℕ) → LineAt d before l p k → (x : VmdkParsedExtent) → lineOf p l ≡ Extent x → length (extentsIn (sayings 0 before)) < t .count
+line-has-row = row-below
+
+-- Where a line is cut at its first two quotes, the text between them is the middle.
+pub between-quotes : (l front middle back : List ℕ) → Quotes l front middle back → inQuotes l ≡ middle
+between-quotes = quotes-in
+
 -- The places at the joints of a disk of two files, zeros and no access: its descriptor reads and builds, and each byte lies where it is due.
 pub joint-places : (readOf joined .verdict ≡ Sound) × (buildOf (readOf joined .descriptor) .verdict ≡ Sound) × (map (λ (j : Joint). placeIn joined (j .byte)) joints ≡ map (λ (j : Joint). j .due) joints)
 joint-places = joints-due
@@ -189,14 +189,14 @@ mapping-names d t a b o asked = maps-named d t a b o asked (mapping-places-bytes
 pub demand-3 : (r : Record) (t : Table) → Builds r t → Reachable (counted r) → (places start long : ℕ) → most ≤ places → Tiles (counted r) start long (walkOf t places start long)
 demand-3 = built-tiles
 
--- The same for bytes: a walk tiles any range, each byte at the place that the extent lines give it.
+-- The same for bytes: for any descriptor that reads and builds, and in which each flat extent's file start plus its length is at most 2^64, a walk over any range, given as many list places as a table has room for rows, tiles it up to the first of its end, the disk's end and a no-access byte, each byte at the place that the extent lines give it.
 pub demand-3-bytes : (d : List ℕ) (t : Table) → readOf d .verdict ≡ Sound → Builds (readOf d .descriptor) t → Reachable (extentsIn (sayingsOf d)) → (places start long : ℕ) → most ≤ places → Tiles (extentsIn (sayingsOf d)) start long (walkOf t places start long)
 demand-3-bytes d t a b h places start long m =
     let e = extents-in-order d a .0 in
     subst (λ (xs : List VmdkParsedExtent). Tiles xs start long (walkOf t places start long)) e
     (demand-3 (readOf d .descriptor) t b (subst Reachable (sym e) h) places start long m)
 
--- Demand 3 with names: a walk over any range, given `most` list places, writes pieces that tile it, and for every byte of every piece, kind, name, file offset and writable are those that the descriptor's own lines give to that byte of the disk.
+-- Demand 3 with names: for any descriptor that reads and builds, and in which each flat extent's file start plus its length is at most 2^64, a walk over any range, given as many list places as a table has room for rows, writes pieces that tile it up to the first of its end, the disk's end and a no-access byte, and for every byte of every piece, kind, name, file offset and writable are those that the descriptor's own lines give to that byte of the disk.
 pub demand-3-names : (d : List ℕ) (t : Table) → readOf d .verdict ≡ Sound → Builds (readOf d .descriptor) t → Reachable (extentsIn (sayingsOf d)) → (places start long : ℕ) → most ≤ places → TilesNamed d t start long (walkOf t places start long)
 demand-3-names d t a b h places start long m =
     tiles-named d t a b start long (walkOf t places start long) (demand-3-bytes d t a b h places start long m)
@@ -278,7 +278,7 @@ names-within = accepted-names
 pub walk-once : (r : Record) (t : Table) → Builds r t → (places start long : ℕ) → Rise 0 (rowsOf (walkOf t places start long .pieces))
 walk-once = built-rises
 
--- Each answer has at most as many bytes as the longest input, `rowMost` more for each row that a table can have, and `headMost` besides ..
+-- Each answer has at most as many bytes as the longest input, `rowMost` more for each row that a table can have, and `headMost` besides, if a walk starts at or below 2^64-1, as every number of the code does ..
 pub answer-most : (d : List ℕ) (c : Command) → Asked c → length (answerOf d c) ≤ mostInput + most * rowMost + headMost
 answer-most = answer-bound
 
