@@ -32,10 +32,12 @@ pub mod Reports
 pub mod Rising
 pub mod Routes
 pub mod Rows
+pub mod RuledOut
 pub mod Sayings
 pub mod SecondNumbers
 pub mod Sequences
 pub mod Shared
+pub mod SmallInputs
 pub mod Spellings
 pub mod Theorems
 pub mod TheoremsOfText

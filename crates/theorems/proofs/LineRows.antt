@@ -178,7 +178,7 @@ module _ (d : List ℕ) (t : Table) (a : readOf d .verdict ≡ Sound) (b : Build
     row-extent : getD (counted (readOf d .descriptor)) row noExtent ≡ x
     row-extent = rw (accepted-extents d a, at .lines) (said-at 0 before l (at .after) x said-here)
 
-    row-source : rowAt t row .source ≡ sourceOf (x .storage)
+    pub row-source : rowAt t row .source ≡ sourceOf (x .storage)
     row-source = rows .source row row-below ∙ rw row-extent
 
     row-long : rowAt t row .end .0 ≡ rowAt t row .start .0 + bytesIn x

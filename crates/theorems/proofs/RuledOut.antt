@@ -1,0 +1,261 @@
+-- What the statements of the page rule out. Each is said again with an answer in the place of the exported function's: the function's own answer meets it, by the theorem of the page, and a wrong one does not.
+-- A statement "exactly when" would give the wrong answer wherever the right one is given, and the other way round; the others are false of the wrong answer at one small input.
+use Prim.Native.Nat.{ℕ, suc, _+_, _*_, _-_, _≤_, _<_}
+use native.Mathlib.Omega.{arith}
+use mathlib.Core.List.{List, [], _∷_, _++_}
+use mathlib.Core.Logic.{_↔_, _⊎_, inl}
+use mathlib.Core.Bool.{true, false}
+use mathlib.Core.Path.{_≡_, refl, sym, ap, _∙_}
+use lib.ListN.{length, take, getD}
+use Rattle.text.specs.Ascii.{ascii}
+use Rattle.text.specs.Find.{begins}
+use Rattle.text.specs.Ranges.{within}
+use Rattle.text.specs.Sector.{largest}
+use Rattle.text.specs.Text.{trimmed}
+use Rattle.text.specs.declared.sector.Bytes.{Bytes}
+use Rattle.lines.specs.Line.{lineOf}
+use Rattle.lines.specs.Record.{most, mostBytes, noText, noExtent, descOf, noDesc, noRecord, recordOf, counted, refusal}
+use Rattle.lines.specs.declared.line.Said.{Said}
+use Rattle.lines.specs.declared.line.Said.the-variants.{Extent, Refused as Said·Refused}
+use Rattle.lines.specs.declared.record.Record.{Record}
+use Rattle.lines.specs.declared.record.Refusal.{Refusal}
+use Rattle.lines.specs.declared.record.Text.{Text}
+use Rattle.lines.specs.declared.record.Verdict.{Verdict}
+use Rattle.lines.specs.declared.record.Verdict.the-variants.{Sound, Refused}
+use Rattle.lines.specs.declared.record.VmdkAccessType.{VmdkAccessType}
+use Rattle.lines.specs.declared.record.VmdkAccessType.the-variants.{RW}
+use Rattle.lines.specs.declared.record.VmdkDesc.{VmdkDesc}
+use Rattle.lines.specs.declared.record.VmdkParsedExtent.{VmdkParsedExtent}
+use Rattle.descriptor.specs.Read.{leastBytes, sparse, readOf}
+use Rattle.tables.specs.Build.{noRow, noTable, tableOf, buildOf}
+use Rattle.tables.specs.declared.table.Built.{Built}
+use Rattle.tables.specs.declared.table.Piece.{Piece}
+use Rattle.tables.specs.declared.table.Row.{Row}
+use Rattle.tables.specs.declared.table.ShallowMapping.{ShallowMapping}
+use Rattle.tables.specs.declared.table.ShallowMapping.the-variants.{Eof, Raw, Refused as Mapped·Refused}
+use Rattle.tables.specs.declared.table.Source.the-variants.{Flat as File}
+use Rattle.tables.specs.declared.table.Stop.the-variants.{Done, Refused as Stopped}
+use Rattle.tables.specs.declared.table.Table.{Table}
+use Rattle.maps.specs.Map.{mapOf}
+use Rattle.maps.specs.Place.{Reachable, sizeOf}
+use Rattle.maps.specs.Walk.{Walk, ends, rawPiece, noPiece, walkOf, listed}
+use Rattle.probing.specs.Probe.{probeOf}
+use Rattle.puts.specs.Decimal.{digitsIn, decimalOf}
+use Rattle.puts.specs.Put.{pasted, after}
+use Rattle.phrases.specs.Line.{line, nameIn, accessWord, refusedLine}
+use Rattle.disk_lines.specs.Report.{probeLine, rowLine, tableLines, reportOf}
+use Rattle.map_lines.specs.Map.{mappingLine, mapLineOf}
+use Rattle.walk_lines.specs.Walk.{walkLines, walkLinesOf}
+use Rattle.report.specs.Command.{mostInput, commandOf, said, answerOf}
+use Rattle.report.specs.Room.{rowMost, headMost, room}
+use Rattle.report.specs.declared.command.Command.{Command}
+use Rattle.report.specs.declared.command.Command.the-variants.{Report}
+use Rattle.theorems.specs.Cases.{lines}
+use Rattle.theorems.specs.LineWords.{NameAt, Item, cid}
+use Rattle.theorems.specs.Values.{number, heldIn, LastSaid}
+use Rattle.theorems.specs.Counted.{walkWith, countOf}
+use Rattle.theorems.specs.Reports.{RefusedBy, Opens, eachSpaced, total, nameBytes, Asked}
+use Rattle.theorems.specs.Tiling.{All, Rise, rowsOf}
+use Rattle.theorems.specs.GivenWhen.{Fault, faultNumber, When, FirstFault, OneMore, parent-hint, unknown-key}
+use Rattle.theorems.specs.NamedPlaces.{placeIn, seenBy, dueAt, PlacedBy, FromLine}
+use Rattle.theorems.specs.NamedCases.{joined}
+use Rattle.theorems.specs.Over.{SoundLines, SizeOver, SumOver, StartOver, FirstOver, StartsFit}
+use Rattle.theorems.specs.Refusing.{NoAccessAt, FileOverAt, StopsWhere}
+use Rattle.theorems.specs.Rows.{Builds}
+use Rattle.theorems.specs.Statements.{ByLine, sayings, sayingsOf, extentsIn, AllSound, lastVersion, LineAt, ExtentIn}
+use Rattle.theorems.proofs.Theorems.{last-values, row-from-line, line-has-row, mapping-names, demand-3-names, walk-only-counted, extent-lines, walk-once, names-within, refused-alone, opened-written, flat-line, empty-name, too-long, short-enough, report-empty, number-digits, answer-most, answer-fits, program-fits, answer-whole, accepted-when, built-when, refused-no-table, sound-builds, joint-places, mapping-21, mapping-22, mapping-23, walk-refused, walk-21, walk-22, walk-23, given-1, given-2, given-3, given-5-to-15, given-16, given-17, given-18, given-19, line-faults, building-18, building-19, building-20, building-23, reading-numbers, building-numbers, mapping-numbers, walking-numbers}
+use Rattle.theorems.proofs.SmallInputs.{read-sound, small, disk, many, crowd, small-sound, small-builds, build-sound, map-sound, first-line, empty-says, small-rows, not-17, empty-refused, joined-opens, shifted, joined-table, joined-holds, wrong-file, not-seen, joined-reaches, no-steps, whole, nameless, zeros, zeros-long, line-written, no-line, refused-is, walk-written, not-kept, not-shifted, not-few, twice-long, not-there}
+
+-- one answer meets a statement, and another does not
+abbrev Tells : {A : Type 0} → (A → Type 0) → A → A → Type 0
+Tells Says right wrong = Says right × (Says wrong → ⊥)
+
+-- two answers that are each given exactly when the same holds are given together
+together : {P Q B : Type 0} → P ↔ B → Q ↔ B → Q → P
+together p q h = p .1 (q .0 h)
+
+-- ---- reading: every descriptor accepted; every line one that says no access; every descriptor refused, with each number
+accepted-when-tells : Tells (λ (read : List ℕ → Verdict). (d : List ℕ) → (read d ≡ Sound) ↔ (SoundLines d × (sizeOf (extentsIn (sayingsOf d)) ≤ largest))) (λ d. readOf d .verdict) (λ d. Sound)
+accepted-when-tells = (accepted-when, λ s. absurd (omega (arith, s [] .0 refl .0 .0 .least)))
+
+extent-lines-tells : Tells (λ (line : ℕ → List ℕ → Said). (d : List ℕ) (before : List (List ℕ)) (l : List ℕ) (p k : ℕ) (x : VmdkParsedExtent) → LineAt d before l p k → (line p l ≡ Extent x) ↔ (ExtentIn d (trimmed l) x × NameAt p l (x .storage))) lineOf (λ p l. Extent noExtent)
+extent-lines-tells =
+    (extent-lines, λ s. let e = together (extent-lines [] [] [] 0 1 noExtent first-line) (s [] [] [] 0 1 noExtent first-line) refl in let n = empty-says in let z : _≡_ {A = ℕ} 0 1 = cc in absurd (omega arith))
+
+given-1-tells : Tells (λ (read : List ℕ → Verdict). (d : List ℕ) (k : ℕ) → (read d ≡ refusal 1 k) ↔ ((length d < leastBytes) × (k ≡ 0))) (λ d. readOf d .verdict) (λ d. refusal 1 0)
+given-1-tells = (given-1, λ s. read-sound 1 0 (together (given-1 joined 0) (s joined 0) refl))
+
+given-2-tells : Tells (λ (read : List ℕ → Verdict). (d : List ℕ) (k : ℕ) → (read d ≡ refusal 2 k) ↔ ((mostBytes < length d) × (k ≡ 0))) (λ d. readOf d .verdict) (λ d. refusal 2 0)
+given-2-tells = (given-2, λ s. read-sound 2 0 (together (given-2 joined 0) (s joined 0) refl))
+
+given-3-tells : Tells (λ (read : List ℕ → Verdict). (d : List ℕ) (k : ℕ) → (read d ≡ refusal 3 k) ↔ ((leastBytes ≤ length d) × (length d ≤ mostBytes) × (begins d sparse ≡ true) × (k ≡ 0))) (λ d. readOf d .verdict) (λ d. refusal 3 0)
+given-3-tells = (given-3, λ s. read-sound 3 0 (together (given-3 joined 0) (s joined 0) refl))
+
+line-faults-tells : Tells (λ (line : ℕ → List ℕ → Said). (p : ℕ) (l : List ℕ) (f : Fault) → (line p l ≡ Said·Refused (faultNumber f)) ↔ When f (trimmed l)) lineOf (λ p l. Said·Refused 15)
+line-faults-tells =
+    (line-faults, λ s. let e = together (line-faults 0 [] unknown-key) (s 0 [] unknown-key) refl in let n = empty-says in let z : _≡_ {A = ℕ} 0 1 = cc in absurd (omega arith))
+
+given-5-to-15-tells : Tells (λ (read : List ℕ → Verdict). (d : List ℕ) (f : Fault) (k : ℕ) → (read d ≡ refusal (faultNumber f) k) ↔ (ByLine d × FirstFault d f k)) (λ d. readOf d .verdict) (λ d. refusal 13 1)
+given-5-to-15-tells = (given-5-to-15, λ s. read-sound 13 1 (together (given-5-to-15 joined parent-hint 1) (s joined parent-hint 1) refl))
+
+given-16-tells : Tells (λ (read : List ℕ → Verdict). (d : List ℕ) (k : ℕ) → (read d ≡ refusal 16 k) ↔ (ByLine d × OneMore d k)) (λ d. readOf d .verdict) (λ d. refusal 16 1)
+given-16-tells = (given-16, λ s. read-sound 16 1 (together (given-16 joined 1) (s joined 1) refl))
+
+given-17-tells : Tells (λ (read : List ℕ → Verdict). (d : List ℕ) (k : ℕ) → (read d ≡ refusal 17 k) ↔ (ByLine d × AllSound (sayingsOf d) × (within 1 3 (lastVersion (sayingsOf d)) ≡ false) × (k ≡ 0))) (λ d. readOf d .verdict) (λ d. refusal 17 0)
+given-17-tells = (given-17, λ s. read-sound 17 0 (together (given-17 joined 0) (s joined 0) refl))
+
+given-18-tells : Tells (λ (read : List ℕ → Verdict). (d : List ℕ) (i : ℕ) → (read d ≡ refusal 18 i) ↔ (SoundLines d × FirstOver SizeOver (extentsIn (sayingsOf d)) i)) (λ d. readOf d .verdict) (λ d. refusal 18 0)
+given-18-tells = (given-18, λ s. read-sound 18 0 (together (given-18 joined 0) (s joined 0) refl))
+
+given-19-tells : Tells (λ (read : List ℕ → Verdict). (d : List ℕ) (i : ℕ) → (read d ≡ refusal 19 i) ↔ (SoundLines d × FirstOver SumOver (extentsIn (sayingsOf d)) i)) (λ d. readOf d .verdict) (λ d. refusal 19 0)
+given-19-tells = (given-19, λ s. read-sound 19 0 (together (given-19 joined 0) (s joined 0) refl))
+
+reading-numbers-tells : Tells (λ (read : List ℕ → Verdict). (d : List ℕ) (n k : ℕ) → read d ≡ refusal n k → (1 ≤ n) × (n ≤ 19)) (λ d. readOf d .verdict) (λ d. refusal 20 0)
+reading-numbers-tells = (reading-numbers, λ s. absurd (omega (arith, s [] 20 0 refl .1)))
+
+-- the whole descriptor for the name of each of two extents
+names-within-tells : Tells (λ (read : List ℕ → Record). (d : List ℕ) → readOf d .verdict ≡ Sound → total (nameBytes d) (counted (read d)) ≤ length d) (λ d. readOf d .descriptor) (λ d. recordOf noDesc (whole d ∷ whole d ∷ []))
+names-within-tells = (names-within, λ s. twice-long (s joined (joint-places .0)))
+
+-- an empty text that is kept elsewhere than at place 0
+last-values-tells : Tells (λ (values : List ℕ → VmdkDesc). (d : List ℕ) (i : Item) → readOf d .verdict ≡ Sound → LastSaid d i (heldIn (values d) i)) (λ d. readOf d .descriptor .desc) (λ d. descOf 1 (record { place = 5; length = 0 }) noText noText 0 0 0)
+last-values-tells = (last-values, λ s. not-kept (s joined cid (joint-places .0)))
+
+-- ---- building: every record built, a row left by a refused build, a table that is larger, and every record refused
+built-when-tells : Tells (λ (build : Record → Verdict). (r : Record) → (build r ≡ Sound) ↔ ((r .count ≤ most) × (sizeOf (counted r) ≤ largest) × StartsFit (counted r))) (λ r. buildOf r .verdict) (λ r. Sound)
+built-when-tells = (built-when, λ s. absurd (omega (arith, s many .0 refl .0)))
+
+refused-no-table-tells : Tells (λ (build : Record → Built). (r : Record) (x : Refusal) → build r .verdict ≡ Refused x → build r .table ≡ noTable) buildOf (λ r. record { verdict = refusal 23 0; table = tableOf (noRow ∷ []) 0 })
+refused-no-table-tells =
+    (refused-no-table, λ s. let e = ap (λ (t : Table). t .count) (s noRecord (record { number = 23; second = 0 }) refl) in absurd (omega (arith, e)))
+
+sound-builds-tells : Tells (λ (table : Record → Table). (r : Record) → buildOf r .verdict ≡ Sound → Builds r (table r)) (λ r. buildOf r .table) (λ r. tableOf [] 1)
+sound-builds-tells =
+    (sound-builds, λ s. let e = ap (λ (b : Built). b .table .count) (sym small-builds ∙ s small small-sound) in let n = small-rows in absurd (omega (arith, e, n)))
+
+building-18-tells : Tells (λ (build : Record → Verdict). (r : Record) (i : ℕ) → (build r ≡ refusal 18 i) ↔ ((r .count ≤ most) × StartsFit (take i (counted r)) × FirstOver SizeOver (counted r) i)) (λ r. buildOf r .verdict) (λ r. refusal 18 0)
+building-18-tells = (building-18, λ s. build-sound 18 0 (together (building-18 small 0) (s small 0) refl))
+
+building-19-tells : Tells (λ (build : Record → Verdict). (r : Record) (i : ℕ) → (build r ≡ refusal 19 i) ↔ ((r .count ≤ most) × StartsFit (take i (counted r)) × FirstOver SumOver (counted r) i)) (λ r. buildOf r .verdict) (λ r. refusal 19 0)
+building-19-tells = (building-19, λ s. build-sound 19 0 (together (building-19 small 0) (s small 0) refl))
+
+building-20-tells : Tells (λ (build : Record → Verdict). (r : Record) (i : ℕ) → (build r ≡ refusal 20 i) ↔ ((r .count ≤ most) × StartsFit (take i (counted r)) × FirstOver StartOver (counted r) i)) (λ r. buildOf r .verdict) (λ r. refusal 20 0)
+building-20-tells = (building-20, λ s. build-sound 20 0 (together (building-20 small 0) (s small 0) refl))
+
+building-23-tells : Tells (λ (build : Record → Verdict). (r : Record) (k : ℕ) → (build r ≡ refusal 23 k) ↔ ((most < r .count) × (k ≡ 0))) (λ r. buildOf r .verdict) (λ r. refusal 23 0)
+building-23-tells = (building-23, λ s. build-sound 23 0 (together (building-23 small 0) (s small 0) refl))
+
+building-numbers-tells : Tells (λ (build : Record → Verdict). (r : Record) (n i : ℕ) → build r ≡ refusal n i → ((18 ≤ n) × (n ≤ 20)) ⊎ (n ≡ 23)) (λ r. buildOf r .verdict) (λ r. refusal 17 0)
+building-numbers-tells = (building-numbers, λ s. not-17 (s noRecord 17 0 refl))
+
+-- ---- places with names: the row of the next line, lines without a row, and the wrong file after a joint
+row-from-line-tells : Tells (λ (in-hand : Table → Table). (d : List ℕ) (t : Table) → readOf d .verdict ≡ Sound → Builds (readOf d .descriptor) t → (i : ℕ) → i < t .count → FromLine d (in-hand t) i) (λ t. t) shifted
+row-from-line-tells =
+    (row-from-line, λ s. not-shifted (s joined joined-table (joint-places .0) (joined-opens .1) 0 (omega (arith, joined-holds .0))))
+
+line-has-row-tells : Tells (λ (count : Table → ℕ). (d : List ℕ) (t : Table) → readOf d .verdict ≡ Sound → Builds (readOf d .descriptor) t → (before : List (List ℕ)) (l : List ℕ) (p k : ℕ) → LineAt d before l p k → (x : VmdkParsedExtent) → lineOf p l ≡ Extent x → length (extentsIn (sayings 0 before)) < count t) (λ t. t .count) (λ t. 0)
+line-has-row-tells = (line-has-row, λ s. not-few (s joined joined-table (joint-places .0) (joined-opens .1)))
+
+mapping-names-tells : Tells (λ (map : Table → ℕ → ℕ → ShallowMapping). (d : List ℕ) (t : Table) → readOf d .verdict ≡ Sound → Builds (readOf d .descriptor) t → (o asked : ℕ) → seenBy d t (map t o asked) ≡ dueAt (placeIn d o)) (λ t o asked. mapOf t o asked .mapping) (λ t o asked. Raw 2 1024 true)
+mapping-names-tells =
+    (λ d t a b o asked. mapping-names d t a b o asked .shows, λ s. not-seen (s joined joined-table (joint-places .0) (joined-opens .1) 0 1))
+
+demand-3-names-tells : Tells (λ (walk : Table → ℕ → ℕ → ℕ → Walk). (d : List ℕ) (t : Table) → readOf d .verdict ≡ Sound → Builds (readOf d .descriptor) t → Reachable (extentsIn (sayingsOf d)) → (places start long : ℕ) → most ≤ places → All (PlacedBy d t) (walk t places start long .pieces)) walkOf (λ t places start long. record { pieces = rawPiece 0 1 2 1024 true ∷ []; stop = Done; position = 1; looked = 1 })
+demand-3-names-tells =
+    (λ d t a b h places start long m. demand-3-names d t a b h places start long m .names, λ s. wrong-file (s joined joined-table (joint-places .0) (joined-opens .1) joined-reaches most 0 1 (omega arith) .0 0 (omega arith)))
+
+-- ---- mapping and the walk: each refusal where there are zeros, a table of one row too many mapped and walked, a number that is another's, a row twice
+mapping-21-tells : Tells (λ (map : Table → ℕ → ℕ → ShallowMapping). (r : Record) (t : Table) → Builds r t → (o asked : ℕ) → (map t o asked ≡ Mapped·Refused 21) ↔ NoAccessAt (counted r) o) (λ t o asked. mapOf t o asked .mapping) (λ t o asked. Mapped·Refused 21)
+mapping-21-tells = (mapping-21, λ s. map-sound 21 (together (mapping-21 small disk small-builds 0 1) (s small disk small-builds 0 1) refl))
+
+mapping-22-tells : Tells (λ (map : Table → ℕ → ℕ → ShallowMapping). (r : Record) (t : Table) → Builds r t → (o asked : ℕ) → (map t o asked ≡ Mapped·Refused 22) ↔ FileOverAt (counted r) o) (λ t o asked. mapOf t o asked .mapping) (λ t o asked. Mapped·Refused 22)
+mapping-22-tells = (mapping-22, λ s. map-sound 22 (together (mapping-22 small disk small-builds 0 1) (s small disk small-builds 0 1) refl))
+
+mapping-23-tells : Tells (λ (map : Table → ℕ → ℕ → ShallowMapping). (t : Table) (o asked : ℕ) → (map t o asked ≡ Mapped·Refused 23) ↔ (most < t .count)) (λ t o asked. mapOf t o asked .mapping) (λ t o asked. Eof)
+mapping-23-tells =
+    (mapping-23, λ s. let e = s crowd 0 0 .1 (omega arith) in let z : _≡_ {A = ℕ} 0 1 = cc in absurd (omega arith))
+
+mapping-numbers-tells : Tells (λ (map : Table → ℕ → ℕ → ShallowMapping). (t : Table) (o asked n : ℕ) → map t o asked ≡ Mapped·Refused n → (21 ≤ n) × (n ≤ 23)) (λ t o asked. mapOf t o asked .mapping) (λ t o asked. Mapped·Refused 20)
+mapping-numbers-tells = (mapping-numbers, λ s. absurd (omega (arith, s noTable 0 0 20 refl .0)))
+
+walk-refused-tells : Tells (λ (walk : Table → ℕ → ℕ → ℕ → Walk). (t : Table) (places begin long n : ℕ) → n < 23 → (walk t places begin long .stop ≡ Stopped n) ↔ StopsWhere (λ o. mapOf t o (begin + long - o) .mapping ≡ Mapped·Refused n) places begin long (walk t places begin long)) walkOf (λ t places begin long. ends (Stopped 21) begin 0)
+walk-refused-tells = (walk-refused, λ s. absurd (omega (arith, s noTable 0 0 0 21 (omega arith) .0 refl .left)))
+
+walk-21-tells : Tells (λ (walk : Table → ℕ → ℕ → ℕ → Walk). (r : Record) (t : Table) → Builds r t → (places begin long : ℕ) → (walk t places begin long .stop ≡ Stopped 21) ↔ StopsWhere (NoAccessAt (counted r)) places begin long (walk t places begin long)) walkOf (λ t places begin long. ends (Stopped 21) begin 0)
+walk-21-tells =
+    (walk-21, λ s. map-sound 21 (mapping-21 small disk small-builds 0 1 .1 (s small disk small-builds 1 0 1 .0 refl .so)))
+
+walk-22-tells : Tells (λ (walk : Table → ℕ → ℕ → ℕ → Walk). (r : Record) (t : Table) → Builds r t → (places begin long : ℕ) → (walk t places begin long .stop ≡ Stopped 22) ↔ StopsWhere (FileOverAt (counted r)) places begin long (walk t places begin long)) walkOf (λ t places begin long. ends (Stopped 22) begin 0)
+walk-22-tells =
+    (walk-22, λ s. map-sound 22 (mapping-22 small disk small-builds 0 1 .1 (s small disk small-builds 1 0 1 .0 refl .so)))
+
+walk-23-tells : Tells (λ (walk : Table → ℕ → ℕ → ℕ → Walk). (t : Table) (places begin long : ℕ) → (walk t places begin long .stop ≡ Stopped 23) ↔ (most < t .count)) walkOf (λ t places begin long. ends Done begin 0)
+walk-23-tells =
+    (walk-23, λ s. let e = s crowd 0 0 0 .1 (omega arith) in let z : _≡_ {A = ℕ} 0 1 = cc in absurd (omega arith))
+
+walking-numbers-tells : Tells (λ (walk : Table → ℕ → ℕ → ℕ → Walk). (t : Table) (places begin long n : ℕ) → walk t places begin long .stop ≡ Stopped n → (21 ≤ n) × (n ≤ 23)) walkOf (λ t places begin long. ends (Stopped 20) begin 0)
+walking-numbers-tells = (walking-numbers, λ s. absurd (omega (arith, s noTable 0 0 0 20 refl .0)))
+
+walk-once-tells : Tells (λ (walk : Table → ℕ → ℕ → ℕ → Walk). (r : Record) (t : Table) → Builds r t → (places start long : ℕ) → Rise 0 (rowsOf (walk t places start long .pieces))) walkOf (λ t places start long. record { pieces = noPiece ∷ noPiece ∷ []; stop = Done; position = start; looked = 0 })
+walk-once-tells = (walk-once, λ s. absurd (omega (arith, s small disk small-builds 1 0 1 .1 .0)))
+
+-- a list that is emptied
+walk-only-counted-tells : Tells (λ (left : Walk → List Piece → List Piece). (t : Table) (list : List Piece) (pos long i : ℕ) (none : Piece) → countOf t list pos long ≤ i → getD (left (walkWith t list pos long) list) i none ≡ getD list i none) listed (λ w list. [])
+walk-only-counted-tells =
+    (λ t list pos long i none h. walk-only-counted t list pos long .kept-at i none h, λ s. let e : _≡_ {A = ℕ} 1 0 = ap (λ (p : Piece). p .start) (s noTable (noPiece ∷ []) 0 0 0 (rawPiece 1 1 1 1 true) no-steps) in absurd (omega (arith, e)))
+
+-- ---- the report, and the program's answers: nothing written, an empty name without the space, 24 for each input, an answer that is longer, a buffer left as it was
+refused-alone-tells : Tells (λ (report : List ℕ → List ℕ). (d : List ℕ) (x : Refusal) → RefusedBy d x → report d ≡ probeLine (probeOf d) ++ refusedLine x) reportOf (λ d. [])
+refused-alone-tells =
+    (λ d x r. refused-alone d x r .report, λ s. no-line (probeOf []) _ (s [] (record { number = 1; second = 0 }) (inl empty-refused)))
+
+refused-map-tells : Tells (λ (map : List ℕ → ℕ → ℕ → List ℕ). (d : List ℕ) (x : Refusal) → RefusedBy d x → (offset long : ℕ) → map d offset long ≡ refusedLine x) mapLineOf (λ d offset long. [])
+refused-map-tells =
+    (λ d x r. refused-alone d x r .map, λ s. line-written _ (s [] (record { number = 1; second = 0 }) (inl empty-refused) 0 0 ∙ refused-is))
+
+refused-walk-tells : Tells (λ (walk : List ℕ → ℕ → ℕ → ℕ → List ℕ). (d : List ℕ) (x : Refusal) → RefusedBy d x → (offset long places : ℕ) → walk d offset long places ≡ refusedLine x) walkLinesOf (λ d offset long places. [])
+refused-walk-tells =
+    (λ d x r. refused-alone d x r .walk, λ s. line-written _ (s [] (record { number = 1; second = 0 }) (inl empty-refused) 0 0 0 ∙ refused-is))
+
+opened-report-tells : Tells (λ (report : List ℕ → List ℕ). (d : List ℕ) (t : Table) → Opens d t → report d ≡ probeLine (probeOf d) ++ tableLines d (readOf d .descriptor .desc .version) t) reportOf (λ d. [])
+opened-report-tells = (λ d t o. opened-written d t o .report, λ s. no-line (probeOf joined) _ (s joined _ joined-opens))
+
+opened-map-tells : Tells (λ (map : List ℕ → ℕ → ℕ → List ℕ). (d : List ℕ) (t : Table) → Opens d t → (offset long : ℕ) → map d offset long ≡ mappingLine d (t .rows) (mapOf t offset long)) mapLineOf (λ d offset long. [])
+opened-map-tells = (λ d t o. opened-written d t o .map, λ s. line-written _ (s joined _ joined-opens 0 0))
+
+opened-walk-tells : Tells (λ (walk : List ℕ → ℕ → ℕ → ℕ → List ℕ). (d : List ℕ) (t : Table) → Opens d t → (offset long places : ℕ) → walk d offset long places ≡ walkLines d (t .rows) (walkOf t places offset long)) walkLinesOf (λ d offset long places. [])
+opened-walk-tells = (λ d t o. opened-written d t o .walk, λ s. walk-written _ _ _ (s joined _ joined-opens 0 0 0))
+
+flat-line-tells : Tells (λ (row : List ℕ → ℕ → Row → List ℕ). (d : List ℕ) (i : ℕ) (r : Row) (a : VmdkAccessType) (start : Bytes) (name : Text) → r .source ≡ File a start name → row d i r ≡ eachSpaced (decimalOf i ∷ decimalOf (r .start .0) ∷ decimalOf (r .end .0) ∷ ascii "FLAT" ∷ accessWord a ∷ decimalOf (start .0) ∷ []) ++ (nameIn d name ++ (0x0A ∷ []))) rowLine (λ d i r. lines ("0 0 0 RW FLAT 0 " ∷ []))
+unfolding decimalOf digitsIn nameIn
+flat-line-tells =
+    (flat-line, λ s. let e = s [] 0 nameless RW (record { 0 = 0 }) noText refl in let h : _≡_ {A = ℕ} 0x52 0x46 = ap (λ (x : List ℕ). getD x 6 0) e in absurd (omega (arith, h)))
+
+empty-name-tells : Tells (λ (row : List ℕ → ℕ → Row → List ℕ). (d : List ℕ) (i : ℕ) (r : Row) (a : VmdkAccessType) (start : Bytes) (name : Text) → r .source ≡ File a start name → nameIn d name ≡ [] → row d i r ≡ eachSpaced (decimalOf i ∷ decimalOf (r .start .0) ∷ decimalOf (r .end .0) ∷ ascii "FLAT" ∷ accessWord a ∷ decimalOf (start .0) ∷ []) ++ (0x0A ∷ [])) rowLine (λ d i r. lines ("0 0 0 FLAT RW 0" ∷ []))
+unfolding decimalOf digitsIn nameIn
+empty-name-tells =
+    (empty-name, λ s. let h : _≡_ {A = ℕ} 0x0A 0x20 = ap (λ (x : List ℕ). getD x 15 0) (s [] 0 nameless RW (record { 0 = 0 }) noText refl refl) in absurd (omega (arith, h)))
+
+too-long-tells : Tells (λ (answer : List ℕ → Command → List ℕ). (d : List ℕ) (c : Command) → mostInput < length d → answer d c ≡ lines ("refused 24 0" ∷ [])) answerOf (λ d c. [])
+too-long-tells =
+    (too-long, λ s. let h : _≡_ {A = ℕ} 0 13 = ap length (s (zeros (suc mostInput)) Report (omega (arith, zeros-long (suc mostInput)))) in absurd (omega (arith, h)))
+
+short-enough-tells : Tells (λ (answer : List ℕ → Command → List ℕ). (d : List ℕ) (c : Command) → length d ≤ mostInput → answer d c ≡ said d c) answerOf (λ d c. lines ("refused 24 0" ∷ []))
+short-enough-tells =
+    (short-enough, λ s. let h : _≡_ {A = ℕ} 13 21 = ap length (s [] Report (omega arith) ∙ report-empty) in absurd (omega (arith, h)))
+
+number-digits-tells : Tells (λ (decimal : ℕ → List ℕ). (n : ℕ) → n ≤ largest → length (decimal n) ≤ 20) decimalOf (λ n. ascii "000000000000000000000")
+number-digits-tells = (number-digits, λ s. absurd (omega (arith, s 0 (omega arith))))
+
+answer-most-tells : Tells (λ (answer : List ℕ → Command → List ℕ). (d : List ℕ) (c : Command) → Asked c → length (answer d c) ≤ mostInput + most * rowMost + headMost) answerOf (λ d c. zeros (suc room))
+answer-most-tells = (answer-most, λ s. absurd (omega (arith, s [] Report tt, zeros-long (suc room))))
+
+answer-fits-tells : Tells (λ (answer : List ℕ → Command → List ℕ). (d : List ℕ) (c : Command) → Asked c → length (answer d c) ≤ room) answerOf (λ d c. zeros (suc room))
+answer-fits-tells = (answer-fits, λ s. absurd (omega (arith, s [] Report tt, zeros-long (suc room))))
+
+program-fits-tells : Tells (λ (answer : List ℕ → Command → List ℕ). (d : List ℕ) (n : ℕ) (mode a b c : List ℕ) → length (answer d (commandOf n mode a b c)) ≤ room) answerOf (λ d c. zeros (suc room))
+program-fits-tells = (program-fits, λ s. absurd (omega (arith, s [] 0 [] [] [] [], zeros-long (suc room))))
+
+answer-whole-tells : Tells (λ (left : List ℕ → List ℕ → List ℕ). (d : List ℕ) (c : Command) → Asked c → (out : List ℕ) → room ≤ length out → (after 0 (answerOf d c) ≡ length (answerOf d c)) × (take (length (answerOf d c)) (left out (answerOf d c)) ≡ answerOf d c)) (λ out x. pasted out 0 x) (λ out x. out)
+answer-whole-tells =
+    (answer-whole, λ s. not-there (s [] Report tt (zeros room) (omega (arith, zeros-long room)) .1))
