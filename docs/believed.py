@@ -6,7 +6,7 @@
 
 A definition must be believed if the contract of an exported function names it, or a theorem of a page (crates/*/proofs/Theorems*.antt),
 or another definition that must be believed. All others only say how the code goes: they stand in `specs/inside/`. Exit 1 where one of
-either kind stands with the other.
+either kind stands with the other, or where a theorem of a page names something that stands in `proofs/`.
 """
 import glob, os, re, sys
 
@@ -54,7 +54,7 @@ for path in sorted(glob.glob("crates/*/specs/**/*.antt", recursive=True)):
             if c:
                 definitions[(module, c.group(1))] = ({current}, path)
 
-roots = set()
+roots, astray = set(), []
 for lib in glob.glob("crates/*/src/lib.rt") + glob.glob("crates/*/src/main.rt"):
     crate = lib.split("/")[1]
     top = open(lib, encoding="utf-8").read()
@@ -69,7 +69,9 @@ for path in glob.glob("crates/*/proofs/Theorems*.antt"):
     text = open(path, encoding="utf-8").read()
     known = imports(text, "")
     for line in re.findall(r"^pub \S+ :.*", text, re.M):
-        roots.update(known[w] for w in WORD.findall(line) if w in known)
+        named = {known[w] for w in WORD.findall(line) if w in known}
+        roots |= named
+        astray += [f"{path}: {n} stands in {m}" for m, n in named if ".proofs." in m]
 
 seen, todo = set(), [r for r in roots if r in definitions]
 while todo:
@@ -101,4 +103,5 @@ for path, ds in sorted(files.items()):
         if (d in seen) == inside:
             wrong += 1
             print(f"{path}: {d[1]} {'must be believed, and stands inside' if inside else 'is promised by private functions only'}")
-sys.exit(1 if wrong else 0)
+print("".join(a + "\n" for a in astray), end="")
+sys.exit(1 if wrong or astray else 0)

@@ -49,12 +49,12 @@ pub(crate) fn head(t: &Table) -> Heading
     }
 }
 
-// The row to look at, of rows lo up to hi.
+// The row to look at, of rows lo up to hi: two steps of the processor, where `lo + (hi - lo) / 2` takes three that wait for each other.
 fn middle(lo: usize, hi: usize) -> usize
-    requires { ⌜ lo < hi ⌝ }
+    requires { ⌜ (lo < hi) × (hi ≤ 128) ⌝ }
     ensures { λ r. ⌜ r ≡ middleOf lo hi ⌝ }
 {
-    lo + (hi - lo) / 2
+    (lo + hi) / 2
 }
 
 // The answer where no row is left: an answer is one number, which a function that calls itself returns in a register.

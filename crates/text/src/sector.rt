@@ -24,7 +24,7 @@ pub enum ByteCount {
 
 impl Sectors {
     // The bytes of one sector.
-    pub const SIZE: u64 = 512;
+    const SIZE: u64 = 512;
 
     // So many sectors.
     pub fn new(n: u64) -> Sectors

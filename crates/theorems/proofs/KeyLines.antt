@@ -149,7 +149,7 @@ count-split b n (x ∷ l) h =
     (λ e. let g : suc (count b l) ≡ suc n = rw e at h in let q = eqb-true x b e in ([], l, rw q, refl, omega arith))
     (λ e. let w = count-split b n l (rw e at h) in (x ∷ w .0, w .1, ap (λ (r : List ℕ). x ∷ r) (w .2), rw e (w .3), w .4))
 
-cut-by : {C : Type 0} (b : ℕ) (l : List ℕ) (n : ℕ) → count b l ≡ n → (count b l ≡ 0 → C) → ((a r : List ℕ) → l ≡ a ++ b ∷ r → count b a ≡ 0 → C) → C
+pub cut-by : {C : Type 0} (b : ℕ) (l : List ℕ) (n : ℕ) → count b l ≡ n → (count b l ≡ 0 → C) → ((a r : List ℕ) → l ≡ a ++ b ∷ r → count b a ≡ 0 → C) → C
 cut-by b l zero e f g = f e
 cut-by b l (suc n) e f g = let w = count-split b n l e in g (w .0) (w .1) (w .2) (w .3)
 

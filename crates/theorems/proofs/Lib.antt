@@ -26,6 +26,7 @@ pub mod NamedPlaces
 pub mod Orders
 pub mod Over
 pub mod Places
+pub mod Probing
 pub mod RefusalNumbers
 pub mod Refusals
 pub mod Reports
@@ -43,6 +44,7 @@ pub mod Theorems
 pub mod TheoremsOfText
 pub mod Tiles
 pub mod Tiling
+pub mod TooLong
 pub mod Totals
 pub mod Trimming
 pub mod Verdicts

@@ -37,14 +37,14 @@ use Rattle.theorems.proofs.ExtentLines.{extent-says, file-named}
 use Rattle.theorems.proofs.Rows.{built-in-rows}
 
 -- ---- the text between the first two quotes
-up-to : (b : ℕ) (l r : List ℕ) → count b l ≡ 0 → upTo b (l ++ b ∷ r) ≡ l
+pub up-to : (b : ℕ) (l r : List ℕ) → count b l ≡ 0 → upTo b (l ++ b ∷ r) ≡ l
 unfolding upTo count
 up-to b [] r h = rw (eq-eqb b b refl)
 up-to b (x ∷ l) r h =
     by-test (eqb x b) (λ e. let g : suc (count b l) ≡ 0 = rw e at h in absurd (omega arith))
     (λ e. rw (e, up-to b l r (rw e at h)))
 
-from-behind : (b : ℕ) (l r : List ℕ) → count b l ≡ 0 → behind b (l ++ b ∷ r) ≡ r
+pub from-behind : (b : ℕ) (l r : List ℕ) → count b l ≡ 0 → behind b (l ++ b ∷ r) ≡ r
 unfolding behind count
 from-behind b [] r h = rw (eq-eqb b b refl)
 from-behind b (x ∷ l) r h =

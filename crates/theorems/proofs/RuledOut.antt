@@ -4,11 +4,12 @@ use Prim.Native.Nat.{ℕ, suc, _+_, _*_, _-_, _≤_, _<_}
 use native.Mathlib.Omega.{arith}
 use mathlib.Core.List.{List, [], _∷_, _++_}
 use mathlib.Core.Logic.{_↔_, _⊎_, inl}
-use mathlib.Core.Bool.{true, false}
+use mathlib.Core.Bool.{Bool, true, false}
 use mathlib.Core.Path.{_≡_, refl, sym, ap, _∙_}
 use lib.ListN.{length, take, getD}
 use Rattle.text.specs.Ascii.{ascii}
 use Rattle.text.specs.Find.{begins}
+use Rattle.text.specs.Lines.{linesOf}
 use Rattle.text.specs.Ranges.{within}
 use Rattle.text.specs.Sector.{largest}
 use Rattle.text.specs.Text.{trimmed}
@@ -60,10 +61,11 @@ use Rattle.theorems.specs.GivenWhen.{Fault, faultNumber, When, FirstFaul
 use Rattle.theorems.specs.NamedPlaces.{placeIn, seenBy, dueAt, PlacedBy, FromLine}
 use Rattle.theorems.specs.NamedCases.{joined}
 use Rattle.theorems.specs.Over.{SoundLines, SizeOver, SumOver, StartOver, FirstOver, StartsFit}
+use Rattle.theorems.specs.Probing.{FirstSays}
 use Rattle.theorems.specs.Refusing.{NoAccessAt, FileOverAt, StopsWhere}
 use Rattle.theorems.specs.Rows.{Builds}
 use Rattle.theorems.specs.Statements.{ByLine, sayings, sayingsOf, extentsIn, AllSound, lastVersion, LineAt, ExtentIn}
-use Rattle.theorems.proofs.Theorems.{last-values, row-from-line, line-has-row, mapping-names, demand-3-names, walk-only-counted, extent-lines, walk-once, names-within, refused-alone, opened-written, flat-line, empty-name, too-long, short-enough, report-empty, number-digits, answer-most, answer-fits, program-fits, answer-whole, accepted-when, built-when, refused-no-table, sound-builds, joint-places, mapping-21, mapping-22, mapping-23, walk-refused, walk-21, walk-22, walk-23, given-1, given-2, given-3, given-5-to-15, given-16, given-17, given-18, given-19, line-faults, building-18, building-19, building-20, building-23, reading-numbers, building-numbers, mapping-numbers, walking-numbers}
+use Rattle.theorems.proofs.Theorems.{probed-when, given-24, last-values, row-from-line, line-has-row, mapping-names, demand-3-names, walk-only-counted, extent-lines, walk-once, names-within, refused-alone, opened-written, flat-line, empty-name, too-long, short-enough, report-empty, number-digits, answer-most, answer-fits, program-fits, answer-whole, accepted-when, built-when, refused-no-table, sound-builds, joint-places, mapping-21, mapping-22, mapping-23, walk-refused, walk-21, walk-22, walk-23, given-1, given-2, given-3, given-5-to-15, given-16, given-17, given-18, given-19, line-faults, building-18, building-19, building-20, building-23, reading-numbers, building-numbers, mapping-numbers, walking-numbers}
 use Rattle.theorems.proofs.SmallInputs.{read-sound, small, disk, many, crowd, small-sound, small-builds, build-sound, map-sound, first-line, empty-says, small-rows, not-17, empty-refused, joined-opens, shifted, joined-table, joined-holds, wrong-file, not-seen, joined-reaches, no-steps, whole, nameless, zeros, zeros-long, line-written, no-line, refused-is, walk-written, not-kept, not-shifted, not-few, twice-long, not-there}
 
 -- one answer meets a statement, and another does not
@@ -73,6 +75,10 @@ Tells Says right wrong = Says right × (Says wrong → ⊥)
 -- two answers that are each given exactly when the same holds are given together
 together : {P Q B : Type 0} → P ↔ B → Q ↔ B → Q → P
 together p q h = p .1 (q .0 h)
+
+-- ---- probing: yes to every descriptor
+probed-when-tells : Tells (λ (probe : List ℕ → Bool). (d : List ℕ) → (probe d ≡ true) ↔ ((leastBytes ≤ length d) × (length d ≤ mostBytes) × ((begins d sparse ≡ true) ⊎ FirstSays (linesOf d)))) probeOf (λ d. true)
+probed-when-tells = (probed-when, λ s. absurd (omega (arith, s [] .0 refl .0)))
 
 -- ---- reading: every descriptor accepted; every line one that says no access; every descriptor refused, with each number
 accepted-when-tells : Tells (λ (read : List ℕ → Verdict). (d : List ℕ) → (read d ≡ Sound) ↔ (SoundLines d × (sizeOf (extentsIn (sayingsOf d)) ≤ largest))) (λ d. readOf d .verdict) (λ d. Sound)
@@ -243,6 +249,9 @@ too-long-tells =
 short-enough-tells : Tells (λ (answer : List ℕ → Command → List ℕ). (d : List ℕ) (c : Command) → length d ≤ mostInput → answer d c ≡ said d c) answerOf (λ d c. lines ("refused 24 0" ∷ []))
 short-enough-tells =
     (short-enough, λ s. let h : _≡_ {A = ℕ} 13 21 = ap length (s [] Report (omega arith) ∙ report-empty) in absurd (omega (arith, h)))
+
+given-24-tells : Tells (λ (answer : List ℕ → Command → List ℕ). (d : List ℕ) (c : Command) → (answer d c ≡ lines ("refused 24 0" ∷ [])) ↔ (mostInput < length d)) answerOf (λ d c. lines ("refused 24 0" ∷ []))
+given-24-tells = (given-24, λ s. absurd (omega (arith, s [] Report .0 refl)))
 
 number-digits-tells : Tells (λ (decimal : ℕ → List ℕ). (n : ℕ) → n ≤ largest → length (decimal n) ≤ 20) decimalOf (λ n. ascii "000000000000000000000")
 number-digits-tells = (number-digits, λ s. absurd (omega (arith, s 0 (omega arith))))

@@ -7,6 +7,7 @@ use mathlib.Core.Logic.{_↔_, _⊎_}
 use mathlib.Core.Bool.{true, false}
 use mathlib.Core.Path.{_≡_, sym, _∙_, subst}
 use lib.ListN.{length, take}
+use Rattle.text.specs.Lines.{linesOf}
 use Rattle.text.specs.Ranges.{within}
 use Rattle.text.specs.Text.{textAt, sound, trimmed}
 use Rattle.text.specs.declared.sector.Sectors.{Sectors}
@@ -77,6 +78,8 @@ use Rattle.theorems.proofs.Digits.{decimal-short}
 use Rattle.theorems.proofs.Fits.{answer-bound, room-enough, command-asked}
 use Rattle.theorems.proofs.NameSums.{accepted-names}
 use Rattle.theorems.proofs.Reports.{report-computes, empty-computes, only-refused, built-written, refused-or-opens, flat-written, answer-short, answer-long}
+use Rattle.theorems.proofs.Probing.{probe-yes}
+use Rattle.theorems.proofs.TooLong.{only-long}
 use Rattle.theorems.proofs.Rising.{built-rises}
 use Rattle.text.specs.Find.{begins}
 use Rattle.maps.specs.Map.{mapOf}
@@ -84,13 +87,18 @@ use Rattle.tables.specs.declared.table.ShallowMapping.the-variants.{Refused as 
 use Rattle.tables.specs.declared.table.Stop.the-variants.{Refused as Stopped}
 use Rattle.theorems.specs.GivenWhen.{Fault, faultNumber, When, FirstFault, OneMore}
 use Rattle.theorems.specs.Over.{SoundLines, SizeOver, SumOver, StartOver, FirstOver, StartsFit}
+use Rattle.theorems.specs.Probing.{FirstSays}
 use Rattle.theorems.specs.Refusing.{NoAccessAt, FileOverAt, StopsWhere}
 use Rattle.theorems.proofs.BeforeLines.{too-few, too-many, sparse-bytes}
 use Rattle.theorems.proofs.LineFaults.{line-given, extent-exactly, fault-first, extents-full}
 use Rattle.theorems.proofs.Over.{size-over, sum-over, start-over, read-over, read-few, read-sound, build-over, build-sound, build-few, build-counted}
 use Rattle.theorems.proofs.MapRefusals.{map-locked, map-over, map-counted, map-numbers, walk-met, walk-locked, walk-file-over, walk-counted, walk-numbers}
 
--- ---- reading
+-- ---- reading, and probing
+-- Probing says yes exactly if the length is in range and the bytes are sparse, or the first line whose trimmed text before its first `=` is `version` has a number 1 to 3 after it, and that line and all before it are UTF-8.
+pub probed-when : (d : List ℕ) → (probeOf d ≡ true) ↔ ((leastBytes ≤ length d) × (length d ≤ mostBytes) × ((begins d sparse ≡ true) ⊎ FirstSays (linesOf d)))
+probed-when = probe-yes
+
 -- An accepted descriptor's extents are those that its lines say, in order, and at most as many as a record has room for.
 pub extents-in-order : (t : List ℕ) → readOf t .verdict ≡ Sound → (counted (readOf t .descriptor) ≡ extentsIn (sayingsOf t)) × (length (extentsIn (sayingsOf t)) ≤ most)
 extents-in-order t e = (accepted-extents t e, accepted-lines t e .1 .1)
@@ -383,6 +391,10 @@ walk-22 = walk-file-over
 -- 23, of any table: a count above the table's room, even where nothing is left or the list has no place.
 pub walk-23 : (t : Table) (places begin long : ℕ) → (walkOf t places begin long .stop ≡ Stopped 23) ↔ (most < t .count)
 walk-23 = walk-counted
+
+-- 24, of the program: more than 65,536 bytes, whatever is asked; no other answer is that line.
+pub given-24 : (d : List ℕ) (c : Command) → (answerOf d c ≡ lines ("refused 24 0" ∷ [])) ↔ (mostInput < length d)
+given-24 = only-long
 
 -- Reading gives 1 to 19 only, ..
 pub reading-numbers : (d : List ℕ) (n k : ℕ) → readOf d .verdict ≡ refusal n k → (1 ≤ n) × (n ≤ 19)

@@ -9,6 +9,7 @@ use mathlib.Core.Path.{_≡_, refl, sym, ap, subst, _∙_}
 use lib.ListN.{length, take, drop, length-drop, length-append}
 use borrow.Author.Tests.{le-leb}
 use Rattle.text.specs.Utf8.{charAt}
+use Rattle.theorems.specs.Tiling.{All}
 use Rattle.theorems.specs.Unicode.{encode, Stands, scalars, encodeAll}
 use Rattle.text.specs.Text.{textAt, sound, trimOf, trimmed, wordOf, trimCodes, wordCodes}
 use Rattle.text.specs.inside.Codes.{codes}
@@ -23,7 +24,6 @@ use Rattle.text.specs.declared.words.Trimmed.the-variants.{Wrong}
 use Rattle.text.specs.declared.words.Word.the-variants.{Found, None}
 use Rattle.text.specs.declared.sector.Sectors.{Sectors}
 use Rattle.text.specs.declared.sector.ByteCount.the-variants.{Count, TooLarge}
-use Rattle.text.proofs.Flat.{Each}
 use Rattle.text.proofs.Chars.{char-end}
 use Rattle.text.proofs.Texts.{Fit, fit}
 use Rattle.theorems.proofs.Encodings.{read-encoding, stands-read, none-stands}
@@ -34,6 +34,10 @@ use Rattle.text.proofs.Finds.{strip-between}
 use Rattle.text.proofs.Sectors.{bytes-rule, bytes-large}
 use Rattle.text.proofs.Lines.{Whole, lines-count, lines-join, lines-whole}
 use Rattle.text.proofs.Numerals.{number-out, number-in, zeros-value, zeros-digits}
+
+whole-each : (ls : List (List ℕ)) → Whole ls → All (λ (l : List ℕ). count 0x0A l ≡ 0) ls
+whole-each [] w = tt
+whole-each (l ∷ ls) w = (w .0, whole-each ls (w .1))
 
 -- ---- UTF-8
 -- The step at a place answers a character c of n bytes exactly if the encoding of the scalar value c stands there, and it has n bytes.
@@ -74,7 +78,7 @@ pub blanks-count : length whiteSpace ≡ 25
 blanks-count = refl
 
 -- U+001C to 001F, 180E, 200B, 2060 and FEFF are none.
-pub never-blank : Each (λ (c : ℕ). blank c ≡ false) (0x1C ∷ 0x1D ∷ 0x1E ∷ 0x1F ∷ 0x180E ∷ 0x200B ∷ 0x2060 ∷ 0xFEFF ∷ [])
+pub never-blank : All (λ (c : ℕ). blank c ≡ false) (0x1C ∷ 0x1D ∷ 0x1E ∷ 0x1F ∷ 0x180E ∷ 0x200B ∷ 0x2060 ∷ 0xFEFF ∷ [])
 unfolding blank
 never-blank = (refl, (refl, (refl, (refl, (refl, (refl, (refl, (refl, tt))))))))
 
@@ -93,8 +97,8 @@ next-word t at cs s e = (word-none-codes t at cs s e, λ a b h. word-some-codes 
 
 -- ---- lines
 -- The lines are the parts between bytes 0A: joined by them they are the text, none of them holds one, and they are one more than there are.
-pub lines : (t : List ℕ) → (joinLines (linesOf t) ≡ t) × Whole (linesOf t) × (length (linesOf t) ≡ suc (count 0x0A t))
-lines t = (lines-join t, lines-whole t, lines-count t)
+pub lines : (t : List ℕ) → (joinLines (linesOf t) ≡ t) × All (λ (l : List ℕ). count 0x0A l ≡ 0) (linesOf t) × (length (linesOf t) ≡ suc (count 0x0A t))
+lines t = (lines-join t, whole-each (linesOf t) (lines-whole t), lines-count t)
 
 -- ---- numbers
 -- A text is a number exactly if it is one optional `+` and one or more digits, whose value is within the limit.

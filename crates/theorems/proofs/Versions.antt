@@ -211,7 +211,7 @@ module _ (t a r : List ℕ) (e : t ≡ a ++ 0x3D ∷ r) (n : count 0x3D a ≡ 0)
   unfolding keyLine
   key-said p = rw (equals-at, before-equals, after-equals)
 
-  key-probed : probeKey t (findAt 0x3D t 0) ≡ pick (same (trimmed a) (ascii "version")) (Answer (verdictOf (numberOf versionLimit (trimmed r)))) Pass
+  pub key-probed : probeKey t (findAt 0x3D t 0) ≡ pick (same (trimmed a) (ascii "version")) (Answer (verdictOf (numberOf versionLimit (trimmed r)))) Pass
   unfolding probeKey
   key-probed = rw (equals-at, before-equals, after-equals)
 
@@ -221,7 +221,7 @@ module _ (t : List ℕ) (n : count 0x3D t ≡ 0) where
   unfolding keyLine findAt
   key-silent p = rw (find-none 0x3D 0 t n)
 
-  key-passed : probeKey t (findAt 0x3D t 0) ≡ Pass
+  pub key-passed : probeKey t (findAt 0x3D t 0) ≡ Pass
   unfolding probeKey findAt
   key-passed = rw (find-none 0x3D 0 t n)
 

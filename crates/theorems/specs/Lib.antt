@@ -8,6 +8,7 @@ pub mod Maps
 pub mod NamedCases
 pub mod NamedPlaces
 pub mod Over
+pub mod Probing
 pub mod Refusing
 pub mod Reports
 pub mod Rows

@@ -169,8 +169,8 @@ module _ {M : Type 1} (𝓤 : URA M) (H : Heap 𝓤) (A : Atoms 𝓤) (W : Given
     abbrev to-middle : Middle 𝓤 H A mem run .Ghost
     to-middle = ((tt, tt, tt, (lo, (hi, tt)), (vint w64 lo ∷ [], (vint w64 hi ∷ [], tt))), tt)
 
-    goes-middle : lo < hi → ent 𝓤 (emp 𝓤) (Middle 𝓤 H A mem run .pre to-middle)
-    goes-middle l = asks 𝓤 H A W middle.ended (middle.clauses 𝓤 H A mem run) to-middle (id⊢ 𝓤 _) (uint-makes 𝓤 H A W w64, (uint-makes 𝓤 H A W w64, tt)) ((refl, lo-fits), ((refl, hi-fits), tt)) (guardI 𝓤 (lo < hi) (emp 𝓤) l)
+    goes-middle : (lo < hi) × (hi ≤ 128) → ent 𝓤 (emp 𝓤) (Middle 𝓤 H A mem run .pre to-middle)
+    goes-middle l = asks 𝓤 H A W middle.ended (middle.clauses 𝓤 H A mem run) to-middle (id⊢ 𝓤 _) (uint-makes 𝓤 H A W w64, (uint-makes 𝓤 H A W w64, tt)) ((refl, lo-fits), ((refl, hi-fits), tt)) (guardI 𝓤 ((lo < hi) × (hi ≤ 128)) (emp 𝓤) l)
 
     abbrev to-row : RowAt 𝓤 H A mem run .Ghost
     to-row = (((κ₀, tt), (q₀, tt), tt, (x, (mid, tt)), (p₀ ∷ [], (vint w64 mid ∷ [], tt))), tt)
@@ -242,7 +242,7 @@ module _ {M : Type 1} (𝓤 : URA M) (H : Heap 𝓤) (A : Atoms 𝓤) (W : Given
           let inside : (mid < 128) × (looked < 128) = (omega (arith, m .1, asked .0), omega (arith, asked .1)) in
           let narrow = next-narrow row lo mid hi offset looked (m .0) (m .1) in
           -- `middle`
-          use0 W (raw (Middle 𝓤 H A mem run .pre to-middle)) (goes-middle less) $
+          use0 W (raw (Middle 𝓤 H A mem run .pre to-middle)) (goes-middle (less, asked .0)) $
           calls-at ! fm (Middle 𝓤 H A mem run) known-middle to-middle (and-then ! (load ! (from ! (stop !)) (look ! 25 refl)) (and-then ! (load ! (from ! (stop !)) (look ! 23 refl)) (no-more !))) (λ w₁.
           use1 W (later (raw (fact 𝓤 (Is usize mid (w₁ ∷ []))))) (answers 𝓤 H A W middle.ended (middle.clauses 𝓤 H A mem run) to-middle mid (λ r ws. id⊢ 𝓤 _) w₁) $ await ! tt $ heard ! (Is usize mid (w₁ ∷ [])) (λ is-mid.
           land ! (from ! (stop !)) (init ! 14 refl (typed-int mid w₁ is-mid)) $ rewrite ! 14 (λ (u : Val). ‵ (fat fullShare (tyInt w64) l₇ 0 u)) (ap only (is-mid .0)) refl $
