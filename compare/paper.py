@@ -11,7 +11,7 @@ import sys
 
 LARGEST = 2**64 - 1
 SECTOR = 512
-MOST_ROWS = 128
+MOST_ROWS = 1024
 
 # Table 3-7: the first byte's range, then the ranges of the bytes that follow.
 TAIL = (0x80, 0xBF)
@@ -368,8 +368,8 @@ def main():
         descriptor = data[at + 4:at + 4 + length]
         at += 4 + length
         count = data[at]
-        queries = [struct.unpack_from("<BQQB", data, at + 1 + 18 * i) for i in range(count)]
-        at += 1 + 18 * count
+        queries = [struct.unpack_from("<BQQH", data, at + 1 + 19 * i) for i in range(count)]
+        at += 1 + 19 * count
         out.write("".join(line + "\n" for line in answer(case, descriptor, queries)))
         case += 1
 

@@ -17,6 +17,7 @@ HERE = Path(__file__).resolve().parent
 PAPER = Path(sys.argv[1]) if len(sys.argv) > 1 else HERE / "paper.py"
 CASES = HERE.parent / "crates" / "vmdkmap_cases"
 MOST_INPUT = 65536
+MOST_PLACES = 1024
 
 
 def number(word, most=2**64 - 1):
@@ -33,7 +34,7 @@ def asked(words):
     if len(words) == 3 and words[0] == "map":
         numbers = [number(words[1]), number(words[2])]
     elif len(words) == 4 and words[0] == "walk":
-        numbers = [number(words[1]), number(words[2]), number(words[3], 128)]
+        numbers = [number(words[1]), number(words[2]), number(words[3], MOST_PLACES)]
     else:
         return None
     return None if None in numbers else (words[0], *numbers)
@@ -43,7 +44,7 @@ def paper(descriptor, queries):
     """The lines that paper.py answers to one case: of each the letter, the five numbers, and the text's bytes."""
     case = struct.pack("<I", len(descriptor)) + descriptor + bytes([len(queries)])
     for query in queries:
-        case += struct.pack("<BQQB", *query)
+        case += struct.pack("<BQQH", *query)
     out = subprocess.run([sys.executable, PAPER], input=case, stdout=subprocess.PIPE, check=True).stdout
     for line in out.decode().split("\n")[:-1]:
         letter, *numbers = line.split(" ")

@@ -1,6 +1,7 @@
 //! The inputs: descriptors to read and probe, and tables to map and walk.
 
 use oracle::draw::Draw;
+use oracle::vmdk::opened::LIMIT;
 
 /// The most bytes that a descriptor has.
 const MOST: usize = 2_097_152;
@@ -32,6 +33,15 @@ pub fn descriptors() -> Vec<Input> {
         Input { name: "1 MB of Cyrillic comments", bytes: filled(cyrillic, MOST / 2) },
         Input { name: "1 MB of CJK comments", bytes: filled(cjk, MOST / 2) },
         Input { name: "64 KB, refused on its last line", bytes: refused },
+    ]
+}
+
+/// The descriptors that are read and not probed: the shortest, one that is refused at once, and one with the most extents.
+pub fn read_only() -> Vec<Input> {
+    vec![
+        Input { name: "1 extent", bytes: extents(1) },
+        Input { name: "refused on its first line", bytes: [&b"unknown=1\n"[..], &extents(1)].concat() },
+        Input { name: "1,024 extents", bytes: extents(LIMIT) },
     ]
 }
 
@@ -89,13 +99,28 @@ fn typical() -> Vec<u8> {
     text.into_bytes()
 }
 
+/// What stands before the extents.
+const HEAD: &str = "# Disk DescriptorFile\nversion=1\nCID=fffffffe\ncreateType=\"custom\"\n";
+
+/// The line of an extent.
+fn extent(index: usize) -> String {
+    format!("RW 4192256 FLAT \"feature-reel-f{index:03}.vmdk\" {}\n", index * 128)
+}
+
+/// So many extents and nothing between them.
+fn extents(count: usize) -> Vec<u8> {
+    let mut text = String::from(HEAD);
+    (0..count).for_each(|index| text.push_str(&extent(index)));
+    text.into_bytes()
+}
+
 /// 128 extents with comments between them, so many bytes in all.
 fn commented(length: usize) -> Vec<u8> {
-    let mut text = String::from("# Disk DescriptorFile\nversion=1\nCID=fffffffe\ncreateType=\"custom\"\n");
+    let mut text = String::from(HEAD);
     let each = (length - text.len()) / 128;
     for index in 0..128 {
         let end = text.len() + each;
-        text.push_str(&format!("RW 4192256 FLAT \"feature-reel-f{index:03}.vmdk\" {}\n", index * 128));
+        text.push_str(&extent(index));
         while text.len() + 72 <= end {
             text.push_str("# shot on the second day, first camera, new film, clear sky, no clouds\n");
         }

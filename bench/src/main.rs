@@ -49,16 +49,19 @@ fn works() -> Vec<Work> {
             works.push(work(format!("{what}: {}", input.name), &input.bytes, doing));
         }
     }
+    for input in inputs::read_only() {
+        works.push(work(format!("read: {}", input.name), &input.bytes, Doing::Read));
+    }
     for (name, bytes) in inputs::scaled() {
         works.push(work(format!("scale: {name}"), &bytes, Doing::Read));
     }
     for (what, doing) in [
         ("map: random offsets", Doing::Map { ascending: false }),
         ("map: ascending offsets", Doing::Map { ascending: true }),
-        ("walk: whole disk", Doing::Walk { window: 1 << 31 }),
+        ("walk: whole disk", Doing::Walk { window: sums::SIZE }),
         ("walk: windows of 64 KB", Doing::Walk { window: 65_536 }),
     ] {
-        for rows in [1, 20, 128] {
+        for rows in [1, 20, 128, 1000] {
             works.push(work(format!("{what}, {rows} rows"), &inputs::table(rows), doing));
         }
     }
@@ -76,7 +79,10 @@ fn work(name: String, descriptor: &[u8], doing: Doing) -> Work {
         Doing::Walk { window } => rust::walk(&reel, window, count),
     });
     let compared = match doing {
-        Doing::Read | Doing::Probe => 1,
+        Doing::Probe => 1,
+        // Our memory is lent again for the second
+        Doing::Read => 3,
+        Doing::Walk { window: sums::SIZE } => 1000,
         Doing::Map { .. } | Doing::Walk { .. } => 100_000,
     };
     Work { name, compared, rust, ours: our_run(descriptor, doing) }
@@ -86,7 +92,7 @@ fn work(name: String, descriptor: &[u8], doing: Doing) -> Work {
 #[cfg(ours)]
 fn our_run(descriptor: Arc<[u8]>, doing: Doing) -> Option<Run> {
     Some(Box::new(move |count| match doing {
-        Doing::Read => repeat(count, || ours::read(&descriptor)),
+        Doing::Read => ours::reads(&descriptor, count),
         Doing::Probe => repeat(count, || ours::probe(&descriptor)),
         Doing::Map { ascending } => ours::map(&descriptor, ascending, count),
         Doing::Walk { window } => ours::walk(&descriptor, window, count),

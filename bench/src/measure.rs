@@ -61,7 +61,8 @@ struct Side<'a> {
     times: u64,
     /// The least nanoseconds of a slice
     least: u64,
-    /// The least nanoseconds of the work done no time: the reading of the table, where it is to be mapped or walked
+    /// The least nanoseconds of the work done no time: the reading of the table, where it is to be mapped or walked, and the making of
+    /// memory, where it is lent again
     none: u64,
 }
 

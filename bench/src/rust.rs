@@ -5,6 +5,7 @@ use crate::sums::{fold, next, ASKED, SIZE};
 use oracle::format::drivers::FormatDriverInstance;
 use oracle::format::gate::ImplicitOpenGate;
 use oracle::io_buffers::IoBufferMut;
+use oracle::vmdk::opened::LIMIT;
 use oracle::vmdk::Vmdk;
 use oracle::{ShallowMapping, Storage, StorageOpenOptions};
 use std::fmt::{self, Display, Formatter};
@@ -108,7 +109,7 @@ struct Piece<'a> {
 pub fn walk(descriptor: &Reel, window: u64, count: u64) -> u64 {
     let vmdk = open(descriptor).expect("a sound table");
     let none = Piece { start: 0, run: 0, file: None, place: 0, writable: false };
-    let mut pieces = [none; 128];
+    let mut pieces = [none; LIMIT];
     let (mut position, mut sum) = (0, 0);
     for _ in 0..count {
         let written = walk_window(&vmdk, position, window, &mut pieces);
@@ -123,7 +124,7 @@ pub fn walk(descriptor: &Reel, window: u64, count: u64) -> u64 {
 
 /// Document 01's walk over the Rust's mapping: how many pieces it wrote.
 #[inline(never)]
-fn walk_window<'a>(vmdk: &'a Vmdk<Reel>, offset: u64, length: u64, pieces: &mut [Piece<'a>; 128]) -> usize {
+fn walk_window<'a>(vmdk: &'a Vmdk<Reel>, offset: u64, length: u64, pieces: &mut [Piece<'a>; LIMIT]) -> usize {
     let (mut start, mut left, mut count) = (offset, length, 0);
     while left > 0 && start < vmdk.size() && count < pieces.len() {
         let (file, place, writable, run) = match vmdk.get_mapping(start, left) {

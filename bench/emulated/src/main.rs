@@ -16,6 +16,10 @@ fn main() {
             println!("{function} 0 descriptor{i} {function}: {}", input.name);
         }
     }
+    for (i, input) in inputs::read_only().iter().enumerate() {
+        write(&format!("only{i}"), &input.bytes);
+        println!("read 0 only{i} read: {}", input.name);
+    }
     for (i, (name, bytes)) in inputs::scaled().iter().enumerate() {
         write(&format!("scaled{i}"), bytes);
         println!("read 0 scaled{i} scale: {name}");
@@ -26,7 +30,7 @@ fn main() {
         ("walk", 1 << 31, "walk: whole disk"),
         ("walk", 65_536, "walk: windows of 64 KB"),
     ] {
-        for rows in [1, 20, 128] {
+        for rows in [1, 20, 128, 1000] {
             write(&format!("table{rows}"), &inputs::table(rows));
             println!("{function} {argument} table{rows} {what}, {rows} rows");
         }

@@ -8,7 +8,7 @@ pub enum Query {
     /// Map an offset, with a length asked.
     Map { offset: u64, length: u64 },
     /// Walk from an offset, with a length and a list of so many places.
-    Walk { offset: u64, length: u64, places: u8 },
+    Walk { offset: u64, length: u64, places: u16 },
 }
 
 /// A descriptor and the queries on its table.
@@ -34,7 +34,7 @@ impl Case {
             out.write_all(&[kind])?;
             out.write_all(&offset.to_le_bytes())?;
             out.write_all(&length.to_le_bytes())?;
-            out.write_all(&[places])?;
+            out.write_all(&u16::to_le_bytes(places))?;
         }
         Ok(())
     }
@@ -60,7 +60,7 @@ fn read_query(from: &mut impl Read) -> io::Result<Query> {
     let [kind] = bytes(from)?;
     let offset = u64::from_le_bytes(bytes(from)?);
     let length = u64::from_le_bytes(bytes(from)?);
-    let [places] = bytes(from)?;
+    let places = u16::from_le_bytes(bytes(from)?);
     match kind {
         0 => Ok(Query::Map { offset, length }),
         1 => Ok(Query::Walk { offset, length, places }),

@@ -1,6 +1,7 @@
 //! Drawn descriptors: good ones in every dress, ones with a chosen fault, and damaged copies.
 
 use crate::draw::Draw;
+use crate::vmdk::opened::LIMIT;
 
 /// Every blank but 0A, which ends a line.
 pub const BLANKS: [&str; 24] = [
@@ -75,7 +76,7 @@ pub fn descriptor(draw: &mut Draw) -> Vec<u8> {
         65..=70 => tokens(draw),
         71..=73 => short(draw),
         74..=85 => wide(draw),
-        86..=88 => long_list(draw),
+        86..=87 => long_list(draw),
         _ => dressed(draw),
     }
 }
@@ -408,13 +409,20 @@ fn wide(draw: &mut Draw) -> Vec<u8> {
     join(&lines, draw)
 }
 
-/// 100 to 130 extents, now and then with other lines and a fault between them.
+/// So many extents at most: some more than are taken.
+pub const MOST_LINES: usize = LIMIT + 6;
+
+/// Many extents, now and then with other lines and a fault between the last ones. Every second list
+/// has no extent without access, so that a walk goes on.
 fn long_list(draw: &mut Draw) -> Vec<u8> {
-    let count = if draw.once_in(3) { 100 + draw.below(31) } else { 126 + draw.below(5) };
+    let open = draw.once_in(2);
     let mut lines = vec![b"version=3".to_vec()];
-    for _ in 0..count {
+    for _ in 0..count(draw) {
         let (sectors, start) = (sectors(draw), sectors(draw));
-        let line = extent(&sectors, &start, draw);
+        let mut line = extent(&sectors, &start, draw);
+        while open && line.starts_with("~NOACCESS") {
+            line = extent(&sectors, &start, draw);
+        }
         lines.push(dress(&line, Dress::Plain, draw).into_bytes());
     }
     for _ in 0..draw.below(3) {
@@ -423,10 +431,22 @@ fn long_list(draw: &mut Draw) -> Vec<u8> {
         } else {
             dress(&other_line(draw), Dress::Plain, draw).into_bytes()
         };
-        let from_end = draw.below(8) as usize;
+        let from_end = draw.below(8.min(lines.len() as u64)) as usize;
         lines.insert(lines.len() - from_end, line);
     }
     join(&lines, draw)
+}
+
+/// A number of extents: around 128, around another edge, around the limit, or any.
+fn count(draw: &mut Draw) -> u64 {
+    let limit = LIMIT as u64;
+    match draw.below(12) {
+        0..=4 => 100 + draw.below(31),
+        5..=6 => [0, 127, 255, 511][draw.below(4) as usize] + draw.below(3),
+        7..=9 => limit - 1 + draw.below(3),
+        10 => limit + 1 + draw.below((MOST_LINES - LIMIT) as u64),
+        _ => draw.below(MOST_LINES as u64 + 1),
+    }
 }
 
 /// A sound or unsound line in an odd dress, after a sound head, so that little else decides.

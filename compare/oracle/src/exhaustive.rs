@@ -1,7 +1,8 @@
 //! Short inputs, all of them: every row of so many tokens, every byte pair, every character.
 
 use crate::cases::{Case, Query};
-use crate::descriptors::EDGES;
+use crate::descriptors::{EDGES, MOST_LINES};
+use crate::vmdk::opened::LIMIT;
 use std::io::{self, Write};
 
 /// Tokens that are put together in every order, after a head.
@@ -100,6 +101,67 @@ pub fn write_characters(out: &mut impl Write) -> io::Result<()> {
     Ok(())
 }
 
+/// Lines that are refused, each by another number: 4 to 15 with the line, 18 to 20 with the extent
+/// (19 only after another extent).
+const REFUSED: [&[u8]; 15] = [
+    b"\xff", b"RW x", b"RW 1", b"RW 1 SPARSE", b"RW 1 FLAT", b"RW 1 FLAT \"", b"RW 1 FLAT x \"\"",
+    b"RW 1 FLAT \"\" x", b"version=x", b"parentFileNameHint=", b"ddb.geometry.heads=x", b"x=",
+    b"RW 36028797018963968 ZERO", b"RW 36028797018963967 ZERO", b"RW 1 FLAT \"\" 36028797018963968",
+];
+
+/// Every number of extents up to some more than are taken: with questions at the last rows, and with
+/// a line after them that is refused. Around the edges there is each such line, and the whole disk is
+/// walked.
+pub fn write_counts(out: &mut impl Write) -> io::Result<()> {
+    for count in 0..=MOST_LINES {
+        let edge = [0, 1, 127, 128, 129, 255, 256, 257, 511, 512, 513].contains(&count) || count + 1 >= LIMIT;
+        let descriptor = extents(count);
+        let queries = if edge { [last_rows(count), whole(count)].concat() } else { last_rows(count) };
+        Case { descriptor: descriptor.clone(), queries }.write(out)?;
+        for line in if edge { &REFUSED[..] } else { &REFUSED[count % REFUSED.len()..][..1] } {
+            Case { descriptor: [&descriptor[..], line].concat(), queries: vec![] }.write(out)?;
+        }
+    }
+    Ok(())
+}
+
+/// A descriptor with so many extents of one sector, of every kind that can be walked.
+pub fn extents(count: usize) -> Vec<u8> {
+    let mut text = String::from("version=1\n");
+    for index in 0..count {
+        text.push_str(&match index % 4 {
+            0 => format!("RW 1 FLAT \"a\" {index}\n"),
+            1 => "RW 1 ZERO\n".to_owned(),
+            2 => "RDONLY 1 FLAT \"\"\n".to_owned(),
+            _ => "RDONLY 1 ZERO\n".to_owned(),
+        });
+    }
+    text.into_bytes()
+}
+
+/// The rows' size.
+const SECTOR: u64 = 512;
+
+/// Mappings at the edges of the last row, and a walk over the last rows.
+pub fn last_rows(count: usize) -> Vec<Query> {
+    let size = count as u64 * SECTOR;
+    let from = |back: u64| size.saturating_sub(back);
+    vec![
+        Query::Map { offset: from(SECTOR + 1), length: 7 },
+        Query::Map { offset: from(SECTOR), length: u64::MAX },
+        Query::Map { offset: from(1), length: 7 },
+        Query::Map { offset: size, length: 7 },
+        Query::Walk { offset: from(3 * SECTOR), length: size, places: MOST_LINES as u16 },
+    ]
+}
+
+/// Walks over the whole disk, with a list of as many places as there are rows, of one less, of 128,
+/// and of as many as a walk fills.
+fn whole(count: usize) -> Vec<Query> {
+    let walk = |places| Query::Walk { offset: 0, length: u64::MAX, places: places as u16 };
+    [count, count.saturating_sub(1), 128, LIMIT].map(walk).to_vec()
+}
+
 /// Long inputs: at 65,536 bytes, and around 2,097,152.
 pub fn write_long(out: &mut impl Write) -> io::Result<()> {
     const MOST: usize = 2_097_152;
@@ -129,7 +191,7 @@ pub fn write_name(name: &[u8], out: &mut impl Write) -> io::Result<()> {
 
 /// A descriptor with a map and a walk over the whole disk.
 pub fn write_case(descriptor: Vec<u8>, out: &mut impl Write) -> io::Result<()> {
-    let queries =
-        vec![Query::Map { offset: 1, length: 7 }, Query::Walk { offset: 0, length: u64::MAX, places: 128 }];
+    let walk = Query::Walk { offset: 0, length: u64::MAX, places: LIMIT as u16 };
+    let queries = vec![Query::Map { offset: 1, length: 7 }, walk];
     Case { descriptor, queries }.write(out)
 }

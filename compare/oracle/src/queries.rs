@@ -4,11 +4,11 @@ use crate::answer::{walk, Stop};
 use crate::cases::{Case, Query};
 use crate::draw::Draw;
 use crate::storage::Store;
-use crate::vmdk::opened::{self, Image};
+use crate::vmdk::opened::{self, Image, LIMIT};
 use std::sync::Arc;
 
-/// The descriptor with some drawn queries; one that is refused gets one now and then, to be
-/// passed over.
+/// The descriptor with some drawn queries, and a walk over the whole disk if it has many rows; one
+/// that is refused gets a query now and then, to be passed over.
 pub fn ask(descriptor: Vec<u8>, draw: &mut Draw) -> Case {
     let mut queries = Vec::new();
     match opened::open(&Store::Descriptor(Arc::from(&descriptor[..]))) {
@@ -17,6 +17,10 @@ pub fn ask(descriptor: Vec<u8>, draw: &mut Draw) -> Case {
         Ok(image) => {
             for _ in 0..1 + draw.below(2 + 2 * image.rows().min(8) as u64) {
                 push(&image, &mut queries, draw);
+            }
+            if image.rows() > 128 {
+                let places = places(&image, draw);
+                queries.push(Query::Walk { offset: 0, length: u64::MAX, places });
             }
         }
     }
@@ -80,15 +84,16 @@ fn length(image: &Image, offset: u64, draw: &mut Draw) -> u64 {
     }
 }
 
-/// A number of places at or around 0, the number of rows or 128.
-fn places(image: &Image, draw: &mut Draw) -> u8 {
+/// A number of places at or around 0, the number of rows, 128, 256 or the limit.
+fn places(image: &Image, draw: &mut Draw) -> u16 {
     let rows = image.rows() as u64;
-    let places = match draw.below(6) {
+    let places = match draw.below(8) {
         0 => draw.below(4),
         1 | 2 => (rows + draw.below(3)).saturating_sub(1),
-        3 => 127,
-        4 => draw.below(rows + 1),
-        _ => 128,
+        3 => 127 + draw.below(4),
+        4 => 255 + draw.below(3),
+        5 => draw.below(rows + 1),
+        _ => LIMIT as u64 - 1 + draw.below(4),
     };
-    places.min(128) as u8
+    places as u16
 }

@@ -2,28 +2,33 @@
 
 use crate::answer;
 use crate::cases::{Case, Query};
-use crate::descriptors::{self, BLANKS, NEAR_BLANKS};
+use crate::descriptors::{self, BLANKS, MOST_LINES, NEAR_BLANKS};
 use crate::draw::Draw;
 use crate::exhaustive::{self, FAMILIES};
 use crate::kinds;
 use crate::queries;
+use crate::vmdk::opened::LIMIT;
 use std::collections::BTreeMap;
 use std::io::{self, Write};
 
 /// The seed of the drawn cases.
 const SEED: u64 = 2026;
 
-/// So many cases at least for each kind of answer, and for the kinds that only long ones have.
+/// So many drawn cases for each kind of answer that short ones have, and for each kind of long table.
 const EACH: u64 = 60;
-const EACH_LONG: u64 = 6;
+const EACH_LONG: u64 = 1;
 
 /// A descriptor above so many bytes is long.
-const SHORT: usize = 400;
+const SHORT: usize = 300;
 
-/// Write the fixed list: the marked cases of document 01, the short rows of tokens, every blank
-/// and near-blank, the edges of Table 3-7, then drawn cases.
+/// Write the fixed list: the marked cases of document 01, some numbers of extents, the short rows of
+/// tokens, every blank and near-blank, the edges of Table 3-7, then drawn cases.
 pub fn write(out: &mut impl Write) -> io::Result<()> {
     marked().iter().try_for_each(|case| case.write(out))?;
+    for count in [128, 129, 257, 512, MOST_LINES] {
+        let descriptor = exhaustive::extents(count);
+        Case { descriptor, queries: exhaustive::last_rows(count) }.write(out)?;
+    }
     for family in &FAMILIES {
         exhaustive::write_family(family, if family.name == "lines" { 2 } else { 3 }, out)?;
     }
@@ -60,7 +65,7 @@ fn drawn() -> Vec<Case> {
     for _ in 0..100_000 {
         let case = queries::ask(descriptors::descriptor(&mut draw), &mut draw);
         let kinds = kinds_of(&case);
-        let long = |kind: &str| kind == "100 to 128 extents" || kind == "refused 16";
+        let long = |kind: &str| kinds::MANY.contains(&kind);
         let wanted = |kind: &String| {
             let most = if long(kind) { EACH_LONG } else { EACH };
             (long(kind) || case.descriptor.len() <= SHORT) && *counts.get(kind).unwrap_or(&0) < most
@@ -84,10 +89,10 @@ fn kinds_of(case: &Case) -> Vec<String> {
     kinds
 }
 
-/// The report's descriptor and the marked cases K1 to K12 of document 01, then the limit of 128.
+/// The report's descriptor and the marked cases K1 to K12 of document 01, then the limit of 1,024.
 pub fn marked() -> Vec<Case> {
     let map = |offset, length| Query::Map { offset, length };
-    let walk = |offset, length| Query::Walk { offset, length, places: 128 };
+    let walk = |offset, length| Query::Walk { offset, length, places: LIMIT as u16 };
     let case = |text: &str, queries: &[Query]| Case {
         descriptor: text.as_bytes().to_vec(),
         queries: queries.to_vec(),
@@ -108,11 +113,11 @@ pub fn marked() -> Vec<Case> {
         case("version=1\nRW 36028797018963967 ZERO\nRW 1 ZERO\n", &[]),
         case("version=1\nRW 2 FLAT \"x\" 36028797018963967\n", &[map(0, 1024), map(512, 1), walk(0, 1024)]),
         case("version=1\nRW 5 FLAT x \"a\"\n", &[]),
-        case(&rows(128), &[walk(0, u64::MAX), map(65535, 1)]),
-        case(&rows(129), &[]),
-        case(&(rows(128) + "x=1\nRW 1 ZERO"), &[]),
-        case(&(rows(129) + "x=1"), &[]),
-        case(&(rows(128) + "RW 1"), &[]),
+        case(&rows(LIMIT), &[walk(0, u64::MAX), map(524_287, 1)]),
+        case(&rows(LIMIT + 1), &[]),
+        case(&(rows(LIMIT) + "x=1\nRW 1 ZERO"), &[]),
+        case(&(rows(LIMIT + 1) + "x=1"), &[]),
+        case(&(rows(LIMIT) + "RW 1"), &[]),
         case("version=1\nRW 1 ZERO\nRW 1 FLAT \"\" 36028797018963968", &[]),
     ]
 }

@@ -61,8 +61,11 @@ fn marked_cases() {
 }
 
 #[test]
-fn limit_of_128() {
+fn limit_of_1024() {
     let answers = answers();
     let last: Vec<&str> = answers[10..15].iter().map(|lines| lines[0].as_str()).collect();
-    assert_eq!(last, ["c 0 1 16 130 0", "c 0 1 15 130 0", "c 0 1 16 130 0", "c 0 1 6 130 0", "c 0 1 20 1 0"]);
+    assert_eq!(
+        last,
+        ["c 0 1 16 1026 0", "c 0 1 15 1026 0", "c 0 1 16 1026 0", "c 0 1 6 1026 0", "c 0 1 20 1 0"]
+    );
 }

@@ -1,2 +1,7 @@
-pub mod Fillings
-pub mod Reading
+pub mod Empties
+pub mod Steps
+pub mod Stores
+pub mod Intos
+pub mod Turns
+pub mod Puts
+pub mod Parsed

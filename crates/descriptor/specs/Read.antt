@@ -61,7 +61,7 @@ sizesFrom i sum (x ∷ xs) = summed i sum (bytesOf (x .sectors)) (λ s. sizesFro
 unfoldable pub checked : VmdkDesc → List VmdkParsedExtent → Read
 checked d xs = pick (within 1 3 (d .version)) (answer (sizesFrom 0 0 xs) d xs) (refusedRead 17 0)
 
--- line k: a refusal is answered with its line; 16 at a sound 129th extent line
+-- line k: a refusal is answered with its line; 16 at a sound 1,025th extent line
 abbrev pub byLine : ℕ → Said → VmdkDesc → List VmdkParsedExtent → (VmdkDesc → List VmdkParsedExtent → Read) → Read
 byLine k Nothing d xs go = go d xs
 byLine k (Set s) d xs go = go (setOf d s) xs
@@ -73,9 +73,13 @@ unfoldable pub readLines : ℕ → ℕ → VmdkDesc → List VmdkParsedExtent �
 readLines k p d xs [] = checked d xs
 readLines k p d xs (l ∷ ls) = byLine k (lineOf p l) d xs (λ d xs. readLines (suc k) (p + length l + 1) d xs ls)
 
+-- before the lines: the length, and then sparse bytes, which are refused with 1, 2 or 3
+abbrev pub beforeLines : {A : Type 0} → List ℕ → (ℕ → A) → A → A
+beforeLines t refused lines =
+    pick (ltb (length t) leastBytes) (refused 1)
+    (pick (ltb mostBytes (length t)) (refused 2)
+    (pick (begins t sparse) (refused 3) lines))
+
 -- reading a descriptor
 unfoldable pub readOf : List ℕ → Read
-readOf t =
-    pick (ltb (length t) leastBytes) (refusedRead 1 0)
-    (pick (ltb mostBytes (length t)) (refusedRead 2 0)
-    (pick (begins t sparse) (refusedRead 3 0) (readLines 1 0 noDesc [] (linesOf t))))
+readOf t = beforeLines t (λ n. refusedRead n 0) (readLines 1 0 noDesc [] (linesOf t))

@@ -1,2 +1,4 @@
 // Reading a descriptor.
+pub mod empty;
 pub mod read;
+mod stepping;

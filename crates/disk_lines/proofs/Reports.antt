@@ -6,6 +6,7 @@ use mathlib.Core.Bool.{Bool, true, false}
 use mathlib.Core.Path.{_≡_}
 use lib.ListN.{length, getD}
 use borrow.Author.Needs.{needs}
+use Rattle.lines.specs.Record.{most}
 use Rattle.text.specs.Ascii.{ascii}
 use Rattle.probing.specs.Probe.{probeOf}
 use Rattle.lines.specs.declared.record.Text.{Text}
@@ -76,7 +77,7 @@ row-put d i x j k h₁ h₂ h₃ h = line-more _ _ _ h₁ (line-more _ _ _ (rw j
 pub ruleset rows = (row-put, put-length, needs)
 
 -- The rule of `row_lines`
-pub row-next : {o q s : List ℕ} {at p r : ℕ} (d : List ℕ) (xs : List Row) (i count : ℕ) → length xs ≡ 128 → i ≤ count → Put o at (linesTo (rowLine d) xs i) p q → i < 128 → Put q p (rowLine d i (getD xs i noRow)) r s → Put o at (linesTo (rowLine d) xs (i + 1)) r s
+pub row-next : {o q s : List ℕ} {at p r : ℕ} (d : List ℕ) (xs : List Row) (i count : ℕ) → length xs ≡ most → i ≤ count → Put o at (linesTo (rowLine d) xs i) p q → i < most → Put q p (rowLine d i (getD xs i noRow)) r s → Put o at (linesTo (rowLine d) xs (i + 1)) r s
 row-next d xs i count l g h b k = lines-next (rowLine d) xs i count l g h noRow b k
 
 pub ruleset rowLists = (lines-start, row-next, lines-counted, lines-all, put-length, needs)

@@ -2,6 +2,7 @@
 ghost use Rattle.puts.specs.Put.{Put};
 ghost use Rattle.phrases.specs.Line.{line, linesTo, ended, accessWord};
 ghost use Rattle.disk_lines.specs.Report.{zeroWords, flatWords, sourceWords, rowLine, probeLine, headLines, tableLines, reportOf};
+use lines::record::MOST;
 use lines::record::Text;
 use lines::record::Verdict;
 use lines::record::VmdkAccessType;
@@ -89,12 +90,12 @@ fn row_line(d: &[u8], i: usize, row: Row, out: &mut [u8], at: usize) -> usize
 }
 
 // Puts the lines of the first rows, as many as are counted.
-fn row_lines(d: &[u8], rows: [Row; 128], count: usize, out: &mut [u8], at: usize) -> usize
+fn row_lines(d: &[u8], rows: [Row; MOST], count: usize, out: &mut [u8], at: usize) -> usize
     ensures { λ r. ⌜ Put (now (out .entry)) at (linesTo (rowLine (now (d .entry))) rows count) r (now (out .exit)) ⌝ }
 {
     let mut next = at;
     let mut i = 0;
-    while i < 128 {
+    while i < MOST {
         if count <= i {
             return next;
         }

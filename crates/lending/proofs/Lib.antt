@@ -2,6 +2,8 @@ pub mod Again
 pub mod Held
 pub mod Item
 pub mod LentLocal
+pub mod LentOn
+pub mod LentShared
 pub mod Literals
 pub mod Local
 pub mod Parts

@@ -1,7 +1,7 @@
--- What a record holds: at most 128 extents; places past the count are no access and zeros, and an empty text is place 0, length 0.
+-- What a record holds: at most 1,024 extents. Places past the count are no access and zeros in a record that was empty before it was read into; an empty text is place 0, length 0.
 use Prim.Native.Nat.{ℕ, _-_}
 use mathlib.Core.List.{List, [], _++_}
-use lib.ListN.{length, take, replicate}
+use lib.ListN.{length, take, drop, replicate}
 use Rattle.lines.specs.declared.record.Text.{Text}
 use Rattle.lines.specs.declared.record.VmdkParsedExtent.{VmdkParsedExtent}
 use Rattle.lines.specs.declared.record.VmdkParsedStorage.the-variants.{NoAccess}
@@ -12,7 +12,7 @@ use Rattle.lines.specs.declared.record.Verdict.the-variants.{Refused}
 
 -- how many extents a record has room for, and rows a table
 abbrev pub most : ℕ
-most = 128
+most = 1024
 
 -- the most bytes of a descriptor
 abbrev pub mostBytes : ℕ
@@ -35,9 +35,13 @@ descOf v c p t s h y =
 abbrev pub noDesc : VmdkDesc
 noDesc = descOf 0 noText noText noText 0 0 0
 
--- a list in 128 places: what it holds, and `none` in the places past it
+-- a list in as many places as a record has: what it holds, and `none` in the places past it
 unfoldable pub filled : {A : Type 0} → A → List A → List A
 filled none xs = xs ++ replicate (most - length xs) none
+
+-- places that held a list, once another list is stored in the first of them: the places past it hold what they held
+unfoldable pub over : {A : Type 0} → List A → List A → List A
+over xs ys = xs ++ drop (length xs) ys
 
 -- the record of some values and extents
 abbrev pub recordOf : VmdkDesc → List VmdkParsedExtent → Record

@@ -52,9 +52,9 @@ pub struct VmdkDesc {
 }
 
 // How many extents a record has room for, and rows a table: `most` of specs/.
-pub const MOST: usize = 128;
+pub const MOST: usize = 1024;
 
-// A descriptor that was read: its values, the number of its extents, and the extents. Places past the count are no access and zeros.
+// A descriptor that was read: its values, the number of its extents, and the extents. Places past the count are no access and zeros in a record that was empty before it was read into.
 pub struct Record {
     pub desc: VmdkDesc,
     pub count: usize,

@@ -3,8 +3,9 @@ ghost use Rattle.maps.specs.Map.{mapOf};
 ghost use Rattle.puts.specs.Put.{Put};
 ghost use Rattle.phrases.specs.Line.{line, nameOf};
 ghost use Rattle.map_lines.specs.Map.{rowWords, rawWords, zeroWords, refusedWords, mappingLine, mapLineOf};
+use by_value::mapped;
+use lines::record::MOST;
 use lines::record::Verdict;
-use maps::by_value::mapped;
 use phrases::line::field;
 use phrases::line::last_field;
 use phrases::line::last_source_name;
@@ -48,7 +49,7 @@ fn zero_line(run: u64, row: u64, looked: u64, out: &mut [u8], at: usize) -> usiz
 // Puts a raw mapping's line.
 fn raw_line(
     d: &[u8],
-    rows: [Row; 128],
+    rows: [Row; MOST],
     run: u64,
     looked: u64,
     row: usize,
@@ -74,7 +75,7 @@ fn refused_mapping(number: u8, looked: u64, out: &mut [u8], at: usize) -> usize
 }
 
 // Puts a mapping's line.
-fn mapping_line(d: &[u8], rows: [Row; 128], m: Mapping, out: &mut [u8], at: usize) -> usize
+fn mapping_line(d: &[u8], rows: [Row; MOST], m: Mapping, out: &mut [u8], at: usize) -> usize
     ensures { λ r. ⌜ Put (now (out .entry)) at (mappingLine (now (d .entry)) rows m) r (now (out .exit)) ⌝ }
 {
     let looked = m.looked as u64;

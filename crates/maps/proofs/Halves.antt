@@ -1,4 +1,4 @@
--- Facts on the halving search that the proofs cite. A look leaves a narrower window or ends the search, so the definition's steps are those of a function that calls itself on what is left; and a search's end is had back from its number, since a row's number is below 128.
+-- Facts on the halving search that the proofs cite. A look leaves a narrower window or ends the search, so the definition's steps are those of a function that calls itself on what is left; and a search's end is had back from its number, since a row's number is below `most`.
 use Prim.Native.Nat.{ℕ, zero, suc, _+_, _-_, _*_, _/_, _%_, _<_, _≤_}
 use native.Mathlib.Omega.{arith}
 use mathlib.Core.Path.{_≡_, refl, sym, _∙_, ap, subst}
@@ -16,7 +16,7 @@ use Rattle.maps.specs.declared.halving.Hit.{Hit}
 use Rattle.maps.specs.declared.halving.Next.{Next}
 use Rattle.tables.specs.Build.{noRow}
 use Rattle.maps.specs.Map.{Search, found, nowhere, looked, holds, middle, decide, halve, inRow, searchOf, mapOf}
-use Rattle.maps.specs.inside.Halving.{headOf, upon, packed, keptRow, hitOf, unpackOf, window, nextOf, spanOf, endOf, endRow, Held, foundBy, foundOf, answerOf}
+use Rattle.maps.specs.inside.Halving.{ends, headOf, upon, packed, keptRow, hitOf, unpackOf, window, nextOf, spanOf, endOf, endRow, Held, foundBy, foundOf, answerOf}
 
 -- by cases on a test
 pub pick-elim : {X : Type 0} (P : X → Type 0) (b : Bool) (x y : X) → (b ≡ true → P x) → (b ≡ false → P y) → P (pick b x y)
@@ -196,13 +196,13 @@ halve-finds (suc w) rows lo hi o bound a =
     (λ _. tt)
 
 -- a search's end is had back from its number
-low-is : (k j : ℕ) → j < 4096 → (k * 4096 + j) % 4096 ≡ j
+low-is : (k j : ℕ) → j < ends → (k * ends + j) % ends ≡ j
 low-is k j l = omega arith
 
-high-is : (k j : ℕ) → j < 4096 → (k * 4096 + j) / 4096 ≡ k
+high-is : (k j : ℕ) → j < ends → (k * ends + j) / ends ≡ k
 high-is k j l = omega arith
 
-unpack-hit : (i n : ℕ) → i < 128 → unpackOf (packed (found i n)) ≡ hitOf (found i n)
+unpack-hit : (i n : ℕ) → i < most → unpackOf (packed (found i n)) ≡ hitOf (found i n)
 unfolding unpackOf
 unpack-hit i n l = simp (low-is n (i + 1) (omega arith), high-is n (i + 1) (omega arith), lt-ltb 0 (i + 1) (omega arith), back i)
   where
@@ -213,22 +213,22 @@ unpack-miss : (n : ℕ) → unpackOf (packed (nowhere n)) ≡ hitOf (nowhere n)
 unfolding unpackOf
 unpack-miss n = simp (low-zero n, high-zero n)
   where
-    low-zero : (n : ℕ) → n * 4096 % 4096 ≡ 0
+    low-zero : (n : ℕ) → n * ends % ends ≡ 0
     low-zero n = omega arith
 
-    high-zero : (n : ℕ) → n * 4096 / 4096 ≡ n
+    high-zero : (n : ℕ) → n * ends / ends ≡ n
     high-zero n = omega arith
 
 zero-add : (n : ℕ) → 0 + n ≡ n
 zero-add n = omega arith
 
-unpack-upon : (rows : List Row) (o bound : ℕ) → bound ≤ 128 → (s : Search) → Finds rows o bound s → unpackOf (packed (upon 0 s)) ≡ hitOf s
+unpack-upon : (rows : List Row) (o bound : ℕ) → bound ≤ most → (s : Search) → Finds rows o bound s → unpackOf (packed (upon 0 s)) ≡ hitOf s
 unpack-upon rows o bound b (found i n) f = ap (λ (k : ℕ). unpackOf (packed (found i k))) (zero-add n) ∙ unpack-hit i n (omega (arith, f .1))
 unpack-upon rows o bound b (nowhere n) f = ap (λ (k : ℕ). unpackOf (packed (nowhere k))) (zero-add n) ∙ unpack-miss n
 
-pub span-most : (h : Heading) (o : ℕ) → spanOf h o ≤ 128
+pub span-most : (h : Heading) (o : ℕ) → spanOf h o ≤ most
 unfolding spanOf
-span-most h o = pick-elim (λ (k : ℕ). k ≤ 128) (leb (h .count) most) _ _ (λ e. pick-elim (λ (k : ℕ). k ≤ 128) (leb (h .size .0) o) _ _ (λ _. omega arith) (λ _. leb-true (h .count) 128 e)) (λ _. omega arith)
+span-most h o = pick-elim (λ (k : ℕ). k ≤ most) (leb (h .count) most) _ _ (λ e. pick-elim (λ (k : ℕ). k ≤ most) (leb (h .size .0) o) _ _ (λ _. omega arith) (λ _. leb-true (h .count) most e)) (λ _. omega arith)
 
 minus : (k : ℕ) → k - 0 ≡ k
 minus k = omega arith

@@ -1,3 +1,4 @@
+pub mod Alike
 pub mod Halves
 pub mod Mappings
 pub mod Steps
@@ -5,6 +6,4 @@ pub mod Put
 pub mod Runs
 pub mod Marks
 pub mod Lent
-pub mod LentTable
-pub mod Listings
 pub mod Searched

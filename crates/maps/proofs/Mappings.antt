@@ -7,6 +7,7 @@ use mathlib.Core.Bool.{Bool, true, false}
 use lib.Dec.{ltb}
 use borrow.Author.Tests.{le-ltb, lt-ltb, le-leb, lt-leb}
 use borrow.Author.Needs.{needs}
+use Rattle.lines.specs.Record.{most}
 use Rattle.text.specs.Sector.{largest}
 use Rattle.text.specs.declared.sector.Bytes.{Bytes}
 use Rattle.lines.specs.declared.record.Text.{Text}
@@ -22,29 +23,29 @@ use Rattle.maps.specs.declared.halving.Next.{Next}
 use Rattle.maps.specs.declared.mapping.Found.{Found}
 use Rattle.maps.specs.Map.{found, nowhere, writable, sourced, ended, refused}
 use Rattle.maps.proofs.Halves.{holds-late, holds-early}
-use Rattle.maps.specs.inside.Halving.{hitOf, window, unpackOf, nextOf, spanOf, Held, foundBy, answerOf}
+use Rattle.maps.specs.inside.Halving.{ends, hitOf, window, unpackOf, nextOf, spanOf, Held, foundBy, answerOf}
 
 module _ (code : ℕ) where
-  pub unpack-found : 0 < code % 4096 → hitOf (found (code % 4096 - 1) (code / 4096)) ≡ unpackOf code
+  pub unpack-found : 0 < code % ends → hitOf (found (code % ends - 1) (code / ends)) ≡ unpackOf code
   unfolding unpackOf
   unpack-found h = rw (lt-ltb _ _ h)
 
-  pub unpack-none : code % 4096 ≤ 0 → hitOf (nowhere (code / 4096)) ≡ unpackOf code
+  pub unpack-none : code % ends ≤ 0 → hitOf (nowhere (code / ends)) ≡ unpackOf code
   unfolding unpackOf
   unpack-none h = rw (le-ltb _ _ h)
 
 pub ruleset unpacks = (unpack-found, unpack-none, needs)
 
 module _ (h : Heading) (o : ℕ) where
-  pub span-many : 128 < h .count → 0 ≡ spanOf h o
+  pub span-many : most < h .count → 0 ≡ spanOf h o
   unfolding spanOf
   span-many a = rw (lt-leb _ _ a)
 
-  pub span-late : {z : ℕ} → h .count ≤ 128 → z ≡ h .size .0 → z ≤ o → 0 ≡ spanOf h o
+  pub span-late : {z : ℕ} → h .count ≤ most → z ≡ h .size .0 → z ≤ o → 0 ≡ spanOf h o
   unfolding spanOf
   span-late a k b = rw (le-leb _ _ a, ← k, le-leb _ _ b)
 
-  pub span-some : {z : ℕ} → h .count ≤ 128 → z ≡ h .size .0 → o < z → h .count ≡ spanOf h o
+  pub span-some : {z : ℕ} → h .count ≤ most → z ≡ h .size .0 → o < z → h .count ≡ spanOf h o
   unfolding spanOf
   span-some a k b = rw (le-leb _ _ a, ← k, lt-leb _ _ b)
 
@@ -86,19 +87,19 @@ module _ (h : Heading) (hit : Hit) (r : Row) (o : ℕ) where
 pub ruleset founds = (end-after, start-before, found-row, found-none, needs)
 
 module _ (f : Found) (o asked : ℕ) {m : Mapping} where
-  pub answer-many : 128 < f .heading .count → m ≡ refused 23 0 → m ≡ answerOf f o asked
+  pub answer-many : most < f .heading .count → m ≡ refused 23 0 → m ≡ answerOf f o asked
   unfolding answerOf
   answer-many a q = rw (lt-leb _ _ a, q)
 
-  pub answer-late : {z : ℕ} → f .heading .count ≤ 128 → z ≡ f .heading .size .0 → z ≤ o → m ≡ ended 0 → m ≡ answerOf f o asked
+  pub answer-late : {z : ℕ} → f .heading .count ≤ most → z ≡ f .heading .size .0 → z ≤ o → m ≡ ended 0 → m ≡ answerOf f o asked
   unfolding answerOf
   answer-late a k b q = rw (le-leb _ _ a, ← k, le-leb _ _ b, q)
 
-  pub answer-found : {z left run : ℕ} → f .heading .count ≤ 128 → z ≡ f .heading .size .0 → o < z → f .hit .found ≡ true → left ≡ min (z - o) (f .left) → run ≡ min asked left → m ≡ sourced (f .source) (f .hit .row) (f .within) run (f .hit .looked) → m ≡ answerOf f o asked
+  pub answer-found : {z left run : ℕ} → f .heading .count ≤ most → z ≡ f .heading .size .0 → o < z → f .hit .found ≡ true → left ≡ min (z - o) (f .left) → run ≡ min asked left → m ≡ sourced (f .source) (f .hit .row) (f .within) run (f .hit .looked) → m ≡ answerOf f o asked
   unfolding answerOf
   answer-found a k b c d e q = rw (le-leb _ _ a, ← k, lt-leb _ _ b, c, ← d, ← e, q)
 
-  pub answer-none : {z : ℕ} → f .heading .count ≤ 128 → z ≡ f .heading .size .0 → o < z → f .hit .found ≡ false → m ≡ ended (f .hit .looked) → m ≡ answerOf f o asked
+  pub answer-none : {z : ℕ} → f .heading .count ≤ most → z ≡ f .heading .size .0 → o < z → f .hit .found ≡ false → m ≡ ended (f .hit .looked) → m ≡ answerOf f o asked
   unfolding answerOf
   answer-none a k b c q = rw (le-leb _ _ a, ← k, lt-leb _ _ b, c, q)
 

@@ -9,7 +9,7 @@ use lib.Dec.{ltb, leb, eqb}
 use lib.ListN.{length, set, drop}
 use borrow.Author.Tests.{ltb-true, ltb-false}
 use Rattle.text.specs.Ranges.{pick}
-use Rattle.lines.specs.Record.{most}
+use Rattle.lines.specs.Record.{most, over as laid}
 use Rattle.tables.specs.declared.table.Table.{Table}
 use Rattle.tables.specs.declared.table.ShallowMapping.{ShallowMapping}
 use Rattle.tables.specs.declared.table.ShallowMapping.the-variants.{Eof, Zero, Raw, Refused}
@@ -253,7 +253,7 @@ walk-most t places pos left =
     less : (k : ℕ) → k ≤ min places most → k ≤ places
     less k h = omega arith
 
--- no more than 128 places count
+-- no more than `most` places count
 pub walk-room : (t : Table) (p r pos left : ℕ) → min p most ≡ min r most → walkOf t p pos left ≡ walkOf t r pos left
 unfolding walkOf
 walk-room t p r pos left e = ap (λ (n : ℕ). pick (leb (t .count) most) (walkFrom n t pos left) (ends (Stopped 23) pos 0)) e
@@ -272,7 +272,7 @@ store-first (y ∷ ys) (p ∷ ps) h = store-next p ys 0 ps ∙ ap (λ (l : List 
 
 -- what the whole walk answers and leaves
 pub whole-is : (w : Walk) (ys : List Piece) → length (w .pieces) ≤ length ys → ending 0 0 ys w ≡ (walked w, listed w ys)
-unfolding listed
+unfolding laid
 whole-is w ys h =
     ap (λ (j : ℕ). both (record { count = j; stop = w .stop; position = w .position; looked = 0 + w .looked }) (storeAll ys 0 (w .pieces))) (plain (length (w .pieces)))
     ∙ ap (λ (j : ℕ). both (record { count = length (w .pieces); stop = w .stop; position = w .position; looked = j }) (storeAll ys 0 (w .pieces))) (plain (w .looked))
@@ -281,11 +281,11 @@ whole-is w ys h =
     plain : (j : ℕ) → 0 + j ≡ j
     plain j = omega arith
 
--- a mark that the step from a stand makes: the same count of pieces, one more only where the stand goes on, and at most 128 rows more looked at
+-- a mark that the step from a stand makes: the same count of pieces, one more only where the stand goes on, and at most `most` rows more looked at
 abbrev Follows : Stand → Mark → Type 0
-Follows s m = (m .at ≡ s .at) × ((m .more ≡ true → s .go ≡ true) × (m .looked ≤ s .looked + 128))
+Follows s m = (m .at ≡ s .at) × ((m .more ≡ true → s .go ≡ true) × (m .looked ≤ s .looked + most))
 
-by-follows : (s : Stand) (m : ShallowMapping) (run k : ℕ) → s .go ≡ true → k ≤ s .looked + 128 → Follows s (byMapping s m run k)
+by-follows : (s : Stand) (m : ShallowMapping) (run k : ℕ) → s .go ≡ true → k ≤ s .looked + most → Follows s (byMapping s m run k)
 by-follows s Eof run k g h = (refl, ((λ _. g), h))
 by-follows s (Zero i) run k g h = (refl, ((λ _. g), h))
 by-follows s (Raw i at w) run k g h = (refl, ((λ _. g), h))
@@ -298,13 +298,13 @@ map-follows t s =
     (λ g. by-follows s (mapOf t (s .pos) (s .left) .mapping) (mapOf t (s .pos) (s .left) .run) (s .looked + mapOf t (s .pos) (s .left) .looked) g (omega (arith, map-modest t (s .pos) (s .left) .1 .1)))
     (λ _. (refl, ((λ e. absurd (true≢false (sym e))), omega arith)))
 
--- a mark of a walk with some room: there is room where there is one more piece, and no more rows are looked at than 128 for each piece and 128 besides
+-- a mark of a walk with some room: there is room where there is one more piece, and no more rows are looked at than `most` for each piece and `most` besides
 pub record Sound (room : ℕ) (m : Mark) : Type 0 where
-  pub some : m .at ≤ 128
+  pub some : m .at ≤ most
   pub less : m .more ≡ true → m .at < room
-  pub few : m .looked ≤ 128 * m .at + 128
+  pub few : m .looked ≤ most * m .at + most
 
-sound-from : (t : Table) (room at k : ℕ) (s : Stand) → Stands room at k s → at ≤ 128 → k ≤ 128 * at → Sound room (mapAt t s)
+sound-from : (t : Table) (room at k : ℕ) (s : Stand) → Stands room at k s → at ≤ most → k ≤ most * at → Sound room (mapAt t s)
 sound-from t room at k s st a h =
     let f = map-follows t s in
     record {
@@ -313,7 +313,7 @@ sound-from t room at k s st a h =
       few = omega (arith, st .0, st .1 .0, f .0, f .1 .1);
     }
 
-pub step-sound : (t : Table) (size room at pos left k : ℕ) → at ≤ 128 → k ≤ 128 * at → Sound room (mapAt t (standOf size room at pos left k))
+pub step-sound : (t : Table) (size room at pos left k : ℕ) → at ≤ most → k ≤ most * at → Sound room (mapAt t (standOf size room at pos left k))
 step-sound t size room at pos left k = sound-from t room at k (standOf size room at pos left k) (stand-stands size room at pos left k)
 
 pub begin-sound : (t : Table) (room pos left : ℕ) → Sound room (mapAt t (beginOf (headOf t) room pos left))

@@ -60,15 +60,15 @@ unfolding inRow
 row-modest t n o asked (found i k) h = sourced-modest (getD (t .rows) i noRow .source) n (t .size .0) (getD (t .rows) i noRow .end .0) o asked i (o - getD (t .rows) i noRow .start .0) k h
 row-modest t n o asked (nowhere k) h = (omega arith, (omega arith, h))
 
-pub map-modest : (t : Table) (o asked : ℕ) → Modest 128 (t .size .0) o asked (mapOf t o asked)
+pub map-modest : (t : Table) (o asked : ℕ) → Modest most (t .size .0) o asked (mapOf t o asked)
 unfolding mapOf searchOf
 map-modest t o asked =
-    pick-elim (Modest 128 (t .size .0) o asked) (leb (t .count) most) (pick (leb (t .size .0) o) (ended 0) (inRow t o asked (halve (t .count) (t .rows) 0 (t .count) o))) (refused 23 0)
-    (λ e. pick-elim (Modest 128 (t .size .0) o asked) (leb (t .size .0) o) (ended 0) (inRow t o asked (halve (t .count) (t .rows) 0 (t .count) o)) (λ _. (omega arith, (omega arith, omega arith)))
-    (λ _. wider (inRow t o asked (halve (t .count) (t .rows) 0 (t .count) o)) (leb-true (t .count) 128 e) (row-modest t (t .count) o asked (halve (t .count) (t .rows) 0 (t .count) o) (halve-looks (t .count) (t .rows) 0 (t .count) o))))
+    pick-elim (Modest most (t .size .0) o asked) (leb (t .count) most) (pick (leb (t .size .0) o) (ended 0) (inRow t o asked (halve (t .count) (t .rows) 0 (t .count) o))) (refused 23 0)
+    (λ e. pick-elim (Modest most (t .size .0) o asked) (leb (t .size .0) o) (ended 0) (inRow t o asked (halve (t .count) (t .rows) 0 (t .count) o)) (λ _. (omega arith, (omega arith, omega arith)))
+    (λ _. wider (inRow t o asked (halve (t .count) (t .rows) 0 (t .count) o)) (leb-true (t .count) most e) (row-modest t (t .count) o asked (halve (t .count) (t .rows) 0 (t .count) o) (halve-looks (t .count) (t .rows) 0 (t .count) o))))
     (λ _. (omega arith, (omega arith, omega arith)))
   where
-    wider : (m : Mapping) → t .count ≤ 128 → Modest (t .count) (t .size .0) o asked m → Modest 128 (t .size .0) o asked m
+    wider : (m : Mapping) → t .count ≤ most → Modest (t .count) (t .size .0) o asked m → Modest most (t .size .0) o asked m
     wider m h g = (g .0, (g .1 .0, omega (arith, h, g .1 .1)))
 
 -- so a step's numbers are numbers of 64 bits

@@ -8,6 +8,7 @@ use mir.Syntax.{w64}
 use mir.Val.{Fits}
 use borrow.Author.Tests.{eq-eqb, ne-eqb, le-leb, lt-leb}
 use borrow.Author.Needs.{needs}
+use Rattle.lines.specs.Record.{most}
 use Rattle.tables.specs.declared.table.ShallowMapping.the-variants.{Eof, Zero, Raw, Refused}
 use Rattle.tables.specs.declared.table.Mapping.{Mapping}
 use Rattle.tables.specs.declared.table.Piece.{Piece}
@@ -43,11 +44,11 @@ module _ (size room at pos left k : ℕ) {o : Bool} (e : o ≡ overOf size pos l
 pub ruleset stands = (stand-over, stand-room, needs)
 
 module _ (h : Heading) (room pos left : ℕ) {r : Stand} where
-  pub begin-many : 128 < h .count → r ≡ halted (Stopped 23) 0 pos left 0 → r ≡ beginOf h room pos left
+  pub begin-many : most < h .count → r ≡ halted (Stopped 23) 0 pos left 0 → r ≡ beginOf h room pos left
   unfolding beginOf
   begin-many l q = rw (q, lt-leb _ _ l)
 
-  pub begin-first : {z : ℕ} → h .count ≤ 128 → z ≡ h .size .0 → r ≡ standOf z room 0 pos left 0 → r ≡ beginOf h room pos left
+  pub begin-first : {z : ℕ} → h .count ≤ most → z ≡ h .size .0 → r ≡ standOf z room 0 pos left 0 → r ≡ beginOf h room pos left
   unfolding beginOf
   begin-first l k q = rw (q, le-leb _ _ l, k)
 

@@ -1,5 +1,5 @@
+pub mod Alike
 pub mod Map
 pub mod Place
 pub mod Walk
-pub mod Listing
 pub mod inside

@@ -1,11 +1,11 @@
 -- The walk: pieces that follow each other from a position, until nothing is left, the disk ends, there is no more room, or a mapping is refused.
 use Prim.Native.Nat.{ℕ, zero, suc, _+_, _-_, min}
 use mathlib.Core.Bool.{Bool, false}
-use mathlib.Core.List.{List, [], _∷_, _++_}
-use lib.ListN.{length, drop}
+use mathlib.Core.List.{List, [], _∷_}
+use lib.ListN.{length, replicate}
 use lib.Dec.{leb, eqb}
 use Rattle.text.specs.Ranges.{pick}
-use Rattle.lines.specs.Record.{most}
+use Rattle.lines.specs.Record.{most, over}
 use Rattle.tables.specs.declared.table.Table.{Table}
 use Rattle.tables.specs.declared.table.ShallowMapping.{ShallowMapping}
 use Rattle.tables.specs.declared.table.ShallowMapping.the-variants.{Eof, Zero, Raw, Refused}
@@ -57,7 +57,7 @@ walkFrom (suc room) t pos left =
     let m : Mapping = mapOf t pos left in
     unlessOver t pos left (step pos (m .mapping) (m .run) (m .looked) (walkFrom room t (pos + m .run) (left - m .run)))
 
--- the walk with a list of so many places: 23 first; at most 128 pieces
+-- the walk with a list of so many places: 23 first; at most `most` pieces
 unfoldable pub walkOf : Table → ℕ → ℕ → ℕ → Walk
 walkOf t places pos left =
     pick (leb (t .count) most) (walkFrom (min places most) t pos left) (ends (Stopped 23) pos 0)
@@ -67,9 +67,13 @@ abbrev pub walked : Walk → Walked
 walked w = record { count = length (w .pieces); stop = w .stop; position = w .position; looked = w .looked }
 
 -- what it leaves in the list: places beyond the count keep their contents
-unfoldable pub listed : Walk → List Piece → List Piece
-listed w list = w .pieces ++ drop (length (w .pieces)) list
+abbrev pub listed : Walk → List Piece → List Piece
+listed w list = over (w .pieces) list
 
 -- a piece of nothing
 abbrev pub noPiece : Piece
 noPiece = zeroPiece 0 0 0
+
+-- so many of them as a walk may write
+unfoldable pub noPieces : List Piece
+noPieces = replicate most noPiece

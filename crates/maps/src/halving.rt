@@ -5,9 +5,13 @@ use text::sector::Bytes;
 ghost use mathlib.Core.Path.{_≡_};
 ghost use Prim.Native.Nat.{_+_, _-_, _<_, _≤_};
 ghost use lib.ListN.{getD};
+ghost use Rattle.lines.specs.Record.{most};
 ghost use Rattle.tables.specs.Build.{noRow};
 ghost use Rattle.maps.specs.Map.{nowhere, middle as middleOf, halve};
 ghost use Rattle.maps.specs.inside.Halving.{headOf, upon, packed, keptRow, unpackOf, window as windowOf, nextOf};
+
+// How many ends a search can have after so many looks: at one of fewer than so many rows, or nowhere. `ends` of specs/inside.
+const ENDS: usize = 4096;
 
 // The numbers beside the rows.
 pub(crate) struct Heading {
@@ -33,7 +37,7 @@ pub(crate) struct Next {
 
 // One row, for a look at it. By hand.
 fn row_at(t: &Table, i: usize) -> Row
-    requires { ⌜ i < 128 ⌝ }
+    requires { ⌜ i < most ⌝ }
     ensures { λ r. ⌜ r ≡ getD (now (t .entry) .rows) i noRow ⌝ }
 {
     t.rows[i]
@@ -51,7 +55,7 @@ pub(crate) fn head(t: &Table) -> Heading
 
 // The row to look at, of rows lo up to hi: two steps of the processor, where `lo + (hi - lo) / 2` takes three that wait for each other.
 fn middle(lo: usize, hi: usize) -> usize
-    requires { ⌜ (lo < hi) × (hi ≤ 128) ⌝ }
+    requires { ⌜ (lo < hi) × (hi ≤ most) ⌝ }
     ensures { λ r. ⌜ r ≡ middleOf lo hi ⌝ }
 {
     (lo + hi) / 2
@@ -59,35 +63,35 @@ fn middle(lo: usize, hi: usize) -> usize
 
 // The answer where no row is left: an answer is one number, which a function that calls itself returns in a register.
 fn no_hit(looked: usize) -> usize
-    requires { ⌜ looked ≤ 128 ⌝ }
+    requires { ⌜ looked ≤ most ⌝ }
     ensures { λ r. ⌜ r ≡ packed (nowhere looked) ⌝ }
 {
-    looked * 4096
+    looked * ENDS
 }
 
 // The search's end that a number stands for.
 pub(crate) fn unpack(code: usize) -> Hit
     ensures { λ r. ⌜ r ≡ unpackOf code ⌝ }
 {
-    let low = code % 4096;
+    let low = code % ENDS;
     if 0 < low {
         Hit {
             found: true,
             row: low - 1,
-            looked: code / 4096,
+            looked: code / ENDS,
         }
     } else {
         Hit {
             found: false,
             row: 0,
-            looked: code / 4096,
+            looked: code / ENDS,
         }
     }
 }
 
 // The window from lo up to hi after a look at row mid, and the answer if that row holds the offset.
 fn window(more: bool, lo: usize, hi: usize, mid: usize, looked: usize) -> Next
-    requires { ⌜ (mid < 128) × (looked < 128) ⌝ }
+    requires { ⌜ (mid < most) × (looked < most) ⌝ }
     ensures { λ r. ⌜ r ≡ windowOf more lo hi mid looked ⌝ }
 {
     Next {
@@ -95,13 +99,13 @@ fn window(more: bool, lo: usize, hi: usize, mid: usize, looked: usize) -> Next
         lo,
         hi,
         looked: looked + 1,
-        code: (looked + 1) * 4096 + (mid + 1),
+        code: (looked + 1) * ENDS + (mid + 1),
     }
 }
 
 // After a look at row mid of lo up to hi: the rows after it, or those before it, or none where it holds the offset.
 fn decide(row: Row, lo: usize, mid: usize, hi: usize, offset: u64, looked: usize) -> Next
-    requires { ⌜ (mid < 128) × (looked < 128) ⌝ }
+    requires { ⌜ (mid < most) × (looked < most) ⌝ }
     ensures { λ r. ⌜ r ≡ nextOf row lo mid hi offset looked ⌝ }
 {
     let start = row.start;
@@ -122,7 +126,7 @@ pub(crate) fn search(
     looked: usize,
     into: &mut Row,
 ) -> usize
-    requires { ⌜ (hi ≤ 128) × (looked + (hi - lo) ≤ 128) ⌝ }
+    requires { ⌜ (hi ≤ most) × (looked + (hi - lo) ≤ most) ⌝ }
     ensures { λ r. ⌜ (r ≡ packed (upon looked (halve (hi - lo) (now (t .entry) .rows) lo hi offset))) × (now (into .exit) ≡ keptRow (now (t .entry) .rows) (halve (hi - lo) (now (t .entry) .rows) lo hi offset) (now (into .entry))) ⌝ }
 {
     if lo < hi {

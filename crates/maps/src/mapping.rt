@@ -2,6 +2,7 @@
 use crate::halving;
 use crate::halving::Heading;
 use crate::halving::Hit;
+use lines::record::MOST;
 use lines::record::VmdkAccessType;
 use tables::build::no_row;
 use tables::table::Mapping;
@@ -11,6 +12,7 @@ use tables::table::Source;
 use tables::table::Table;
 ghost use mathlib.Core.Path.{_≡_};
 ghost use Prim.Native.Nat.{min};
+ghost use Rattle.lines.specs.Record.{most};
 ghost use Rattle.maps.specs.Map.{ended, refused, writable, sourced, mapOf};
 ghost use Rattle.maps.specs.inside.Halving.{spanOf, Held, foundBy, foundOf, answerOf};
 
@@ -29,7 +31,7 @@ fn span(h: Heading, offset: u64) -> usize
     ensures { λ r. ⌜ r ≡ spanOf h offset ⌝ }
 {
     let size = h.size;
-    if h.count <= 128 {
+    if h.count <= MOST {
         if offset < size.offset() {
             return h.count;
         }
@@ -153,7 +155,7 @@ pub(crate) fn answer(f: Found, offset: u64, max_length: u64) -> Mapping
 {
     let h = f.heading;
     let hit = f.hit;
-    if 128 < h.count {
+    if MOST < h.count {
         return refuse(23, 0);
     }
     let size = h.size;

@@ -2,6 +2,7 @@
 use crate::halving;
 use crate::halving::Heading;
 use crate::mapping;
+use lines::record::MOST;
 use tables::table::Mapping;
 use tables::table::Piece;
 use tables::table::PieceSource;
@@ -57,12 +58,12 @@ fn fewer(a: usize, b: usize) -> usize
     if a < b { a } else { b }
 }
 
-// How many pieces may be written: at most 128.
+// How many pieces may be written: at most `MOST`.
 fn room_in(places: usize, long: usize) -> usize
     ensures { λ r. ⌜ r ≡ min (min places long) most ⌝ }
 {
     let n = fewer(places, long);
-    fewer(n, 128)
+    fewer(n, MOST)
 }
 
 // A walk that ends where it stands.
@@ -112,7 +113,7 @@ fn stand_at(size: u64, room: usize, at: usize, pos: u64, left: u64, looked: usiz
 fn begin(h: Heading, room: usize, pos: u64, left: u64) -> Stand
     ensures { λ r. ⌜ r ≡ beginOf h room pos left ⌝ }
 {
-    if 128 < h.count {
+    if MOST < h.count {
         return halt(Stop::Refused(23), 0, pos, left, 0);
     }
     let size = h.size;
@@ -145,7 +146,7 @@ fn zero_piece(start: u64, run: u64, row: usize) -> Piece
 }
 
 // A piece of nothing.
-pub(crate) fn no_piece() -> Piece
+pub fn no_piece() -> Piece
     ensures { λ r. ⌜ r ≡ noPiece ⌝ }
 {
     zero_piece(0, 0, 0)
@@ -257,7 +258,7 @@ fn finish(m: Mark) -> Walked
 }
 
 // The walk, with at most so many of the list's places. By hand.
-pub(crate) fn walk_in(t: &Table, list: &mut [Piece], places: usize, at: u64, length: u64) -> Walked
+pub fn walk_in(t: &Table, list: &mut [Piece], places: usize, at: u64, length: u64) -> Walked
     ensures { λ r. ⌜ (r ≡ walked (walkOf (now (t .entry)) (min places (len (now (list .entry)))) at length)) × (now (list .exit) ≡ listed (walkOf (now (t .entry)) (min places (len (now (list .entry)))) at length) (now (list .entry))) ⌝ }
 {
     let long = list.len();

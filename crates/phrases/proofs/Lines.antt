@@ -9,6 +9,7 @@ use mathlib.Core.Path.{_≡_, refl, sym, ap, _∙_}
 use lib.ListN.{length, take, drop, getD, drop-of-length-le, length-drop, length-take, List·getD-eq-default}
 use lib.Seq.{take-all, take-nil, take-suc}
 use borrow.Author.Needs.{needs}
+use Rattle.lines.specs.Record.{most}
 use Rattle.text.specs.Ascii.{ascii}
 use Rattle.lines.specs.declared.record.Text.{Text}
 use Rattle.lines.specs.declared.record.Refusal.{Refusal}
@@ -120,7 +121,7 @@ module _ {o q : List ℕ} {at r : ℕ} (d : List ℕ) {s : Source} where
 pub ruleset sourceNames = (locked-name, zero-name, flat-name, put-length, needs)
 
 -- The rule of `row_source`
-pub row-past : (rs : List Row) (i : ℕ) → length rs ≡ 128 → 128 ≤ i → NoAccess ≡ sourceAt rs i
+pub row-past : (rs : List Row) (i : ℕ) → length rs ≡ most → most ≤ i → NoAccess ≡ sourceAt rs i
 row-past rs i l h =
     let g : length rs ≤ i = omega arith in
     ap (λ (r : Row). r .source) (sym (List·getD-eq-default rs noRow g))
@@ -145,8 +146,8 @@ pub lines-start : {A : Type 0} (o : List ℕ) (at : ℕ) (f : ℕ → A → List
 unfolding linesTo linesFrom
 lines-start o at f xs h g = put-none o at h g
 
-module _ {A : Type 0} {o q : List ℕ} {at p : ℕ} (f : ℕ → A → List ℕ) (xs : List A) (i count : ℕ) (l : length xs ≡ 128) (g : i ≤ count) (h : Put o at (linesTo f xs i) p q) where
-  pub lines-next : (none : A) {r : ℕ} {s : List ℕ} → i < 128 → Put q p (f i (getD xs i none)) r s → Put o at (linesTo f xs (i + 1)) r s
+module _ {A : Type 0} {o q : List ℕ} {at p : ℕ} (f : ℕ → A → List ℕ) (xs : List A) (i count : ℕ) (l : length xs ≡ most) (g : i ≤ count) (h : Put o at (linesTo f xs i) p q) where
+  pub lines-next : (none : A) {r : ℕ} {s : List ℕ} → i < most → Put q p (f i (getD xs i none)) r s → Put o at (linesTo f xs (i + 1)) r s
   unfolding linesTo
   lines-next none b k =
       let j : i < length xs = omega arith in
@@ -156,7 +157,7 @@ module _ {A : Type 0} {o q : List ℕ} {at p : ℕ} (f : ℕ → A → List ℕ)
   pub lines-counted : count ≤ i → Put o at (linesTo f xs count) p q
   lines-counted b = let e : i ≡ count = omega arith in rw e at h
 
-  pub lines-all : 128 ≤ i → Put o at (linesTo f xs count) p q
+  pub lines-all : most ≤ i → Put o at (linesTo f xs count) p q
   unfolding linesTo
   lines-all b = rw (take-all count xs (omega arith), ← take-all i xs (omega arith)) h
 

@@ -2,24 +2,32 @@
 -- Assumes nothing.
 use Prim.Native.Nat.{ℕ}
 use mathlib.Core.List.{List}
-use mathlib.Core.Path.{_≡_}
+use mathlib.Core.Path.{_≡_, refl, sym, _∙_, ap}
 use borrow.Author.Needs.{needs}
 use Rattle.descriptor.specs.Read.{readOf}
-use Rattle.descriptor.specs.declared.read.Read.{Read}
 use Rattle.lines.specs.declared.record.Refusal.{Refusal}
+use Rattle.lines.specs.declared.record.Verdict.{Verdict}
 use Rattle.lines.specs.declared.record.Verdict.the-variants.{Sound, Refused}
-use Rattle.tables.specs.Build.{buildOf}
-use Rattle.tables.specs.declared.table.Built.{Built}
+use Rattle.by_value.specs.Opening.{openingOf}
+use Rattle.by_value.specs.declared.Opening.{Opening}
 use Rattle.phrases.specs.Opening.{openOf}
 
--- Rules of `open`
-module _ (d : List ℕ) {r : Read} {b : Built} (p : r ≡ readOf d) (q : b ≡ buildOf (r .descriptor)) where
-  pub open-sound : r .verdict ≡ Sound → record { verdict = b .verdict; version = r .descriptor .desc .version; table = b .table } ≡ openOf d
-  unfolding openOf
-  open-sound e = rw (← p, ← q, e)
+read-is : (d : List ℕ) → openingOf d .read ≡ readOf d .verdict
+unfolding openingOf
+read-is d = refl
 
-  pub open-refused : {x : Refusal} → r .verdict ≡ Refused x → record { verdict = Refused x; version = r .descriptor .desc .version; table = b .table } ≡ openOf d
-  unfolding openOf
-  open-refused e = rw (← p, ← q, e)
+-- Rules of `open`
+module _ (d : List ℕ) {o : Opening} (p : o ≡ openingOf d) where
+  -- the read's verdict
+  told : {v : Verdict} → o .read ≡ v → readOf d .verdict ≡ v
+  told e = sym (ap (λ (z : Opening). z .read) p ∙ read-is d) ∙ e
+
+  pub open-sound : o .read ≡ Sound → record { verdict = o .built; version = o .desc .version; table = o .table } ≡ openOf d
+  unfolding openOf openingOf
+  open-sound e = let f = told e in rw (p, f)
+
+  pub open-refused : {x : Refusal} → o .read ≡ Refused x → record { verdict = Refused x; version = o .desc .version; table = o .table } ≡ openOf d
+  unfolding openOf openingOf
+  open-refused e = let f = told e in rw (p, f)
 
 pub ruleset opens = (open-sound, open-refused, needs)

@@ -4,6 +4,7 @@ ghost use mathlib.Core.List.{[], _∷_};
 ghost use Rattle.puts.specs.Put.{Put};
 ghost use Rattle.puts.specs.Decimal.{decimalOf};
 ghost use Rattle.phrases.specs.Line.{spaced, ended, field, line, refusedLine, nameIn, nameOf, accessWord, modeWord, sourceAt};
+use lines::record::MOST;
 use lines::record::Refusal;
 use lines::record::Text;
 use lines::record::VmdkAccessType;
@@ -116,10 +117,10 @@ pub fn last_source_name(d: &[u8], s: Source, out: &mut [u8], at: usize) -> usize
 }
 
 // The source of a row; past the rows there is no access.
-pub fn row_source(rows: [Row; 128], i: usize) -> Source
+pub fn row_source(rows: [Row; MOST], i: usize) -> Source
     ensures { λ r. ⌜ r ≡ sourceAt rows i ⌝ }
 {
-    if i < 128 {
+    if i < MOST {
         let row = rows[i];
         let s = row.source;
         return s;

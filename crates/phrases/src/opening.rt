@@ -1,9 +1,8 @@
 // Reading a descriptor and building its table.
 ghost use mathlib.Core.Path.{_≡_};
 ghost use Rattle.phrases.specs.Opening.{openOf};
-use descriptor::read::parse_descriptor_file;
+use by_value::opened;
 use lines::record::Verdict;
-use tables::build::build;
 use tables::table::Table;
 
 // A descriptor that was read and built: its version and its table, or why it is refused.
@@ -17,15 +16,13 @@ pub struct Opened {
 pub fn open(d: &[u8]) -> Opened
     ensures { λ r. ⌜ r ≡ openOf (now (d .entry)) ⌝ }
 {
-    let read = parse_descriptor_file(d);
-    let verdict = read.verdict;
-    let descriptor = read.descriptor;
-    let version = descriptor.desc.version;
-    let built = build(descriptor);
-    let table = built.table;
+    let opening = opened(d);
+    let verdict = opening.read;
+    let version = opening.desc.version;
+    let table = opening.table;
     match verdict {
         Verdict::Sound => {
-            let verdict = built.verdict;
+            let verdict = opening.built;
             Opened {
                 verdict,
                 version,

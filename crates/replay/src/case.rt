@@ -1,10 +1,10 @@
 // One case: a descriptor and its queries.
 use crate::line;
 use crate::out;
-use lines::record::Record;
+use by_value::Listing;
+use by_value::Opening;
 use lines::record::Verdict;
 use lines::record::VmdkDesc;
-use maps::by_value::Listing;
 use tables::table::Table;
 ghost use Prim.Native.Nat.{_<_};
 
@@ -30,6 +30,14 @@ fn next(b: &[u8], at: usize, more: usize) -> u64
     ensures { λ r. ⌜ r < 256 ⌝ }
 {
     byte(b, std::num::wrapping_add_usize(at, more))
+}
+
+// The number of two bytes so many places after a place, the lowest first.
+fn quarter(b: &[u8], at: usize, more: usize) -> u64
+    ensures { λ r. ⌜ r < 65536 ⌝ }
+{
+    let from = std::num::wrapping_add_usize(at, more);
+    byte(b, from) + next(b, from, 1) * 256
 }
 
 // The number of four bytes from a place, the lowest first.
@@ -70,11 +78,11 @@ fn walk(c: &[u8], t: Table, l: Listing) {
 // The answer to a query: a map where the first number is 0, a walk otherwise.
 fn reply(c: &[u8], t: Table, what: u64, offset: u64, length: u64, places: u64) {
     if what == 0 {
-        let m = maps::by_value::mapped(t, offset, length);
+        let m = by_value::mapped(t, offset, length);
         out::line(c, line::mapping(t, m));
         return;
     }
-    let l = maps::by_value::listed(t, places as usize, offset, length);
+    let l = by_value::listed(t, places as usize, offset, length);
     walk(c, t, l);
 }
 
@@ -90,24 +98,22 @@ fn queries(c: &[u8], t: Table, at: usize) {
             byte(c, from),
             word(c, from, 1),
             word(c, from, 9),
-            next(c, from, 17),
+            quarter(c, from, 17),
         );
-        from = std::num::wrapping_add_usize(from, 18);
+        from = std::num::wrapping_add_usize(from, 19);
         i += 1;
     }
 }
 
-// The answers of case k, whose first n bytes were read as a record.
-fn built(k: u64, c: &[u8], n: usize, probed: bool, x: Record) {
-    let b = tables::build::build(x);
-    let v = b.verdict;
+// The answers of case k, whose first n bytes were read.
+fn built(k: u64, c: &[u8], n: usize, probed: bool, o: Opening) {
+    let v = o.built;
     out::line(c, line::case(k, probed, v));
     match v {
         Verdict::Refused(_) => {}
         Verdict::Sound => {
-            let desc = x.desc;
-            let t = b.table;
-            head(c, desc, t);
+            let t = o.table;
+            head(c, o.desc, t);
             queries(c, t, n);
         }
     }
@@ -117,13 +123,10 @@ fn built(k: u64, c: &[u8], n: usize, probed: bool, x: Record) {
 pub(crate) fn answer(k: u64, c: &[u8], n: usize) {
     let d = out::front(c, n);
     let probed = probing::probe::probe(d);
-    let r = descriptor::read::parse_descriptor_file(d);
-    let v = r.verdict;
+    let o = by_value::opened(d);
+    let v = o.read;
     match v {
         Verdict::Refused(_) => out::line(c, line::case(k, probed, v)),
-        Verdict::Sound => {
-            let x = r.descriptor;
-            built(k, c, n, probed, x);
-        }
+        Verdict::Sound => built(k, c, n, probed, o),
     }
 }

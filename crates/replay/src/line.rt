@@ -1,9 +1,10 @@
 // The lines of an answer: a letter, five numbers and a text (compare/FORMAT.md).
+use by_value::Listing;
+use lines::record::MOST;
 use lines::record::Text;
 use lines::record::Verdict;
 use lines::record::VmdkAccessType;
 use lines::record::VmdkDesc;
-use maps::by_value::Listing;
 use tables::table::Mapping;
 use tables::table::Piece;
 use tables::table::PieceSource;
@@ -58,10 +59,10 @@ pub(crate) fn case(k: u64, probed: bool, v: Verdict) -> Line {
     }
 }
 
-// Row i of a table, which has 128.
+// Row i of a table, if it has so many places.
 fn row(t: Table, i: usize) -> Line {
     let n = i as u64;
-    let r = t.rows[i % 128];
+    let r = t.rows[i % MOST];
     let s = r.source;
     let start = r.start;
     let start = start.offset();
@@ -150,11 +151,11 @@ fn end(w: Walked) -> Line {
     }
 }
 
-// Line i of a walk: a piece, at most 128, or after the last one the end.
+// Line i of a walk: a piece, or after the last one the end.
 pub(crate) fn walk(t: Table, l: Listing, i: usize) -> Line {
     let w = l.walked;
     if w.count <= i {
         return end(w);
     }
-    piece(t, l.pieces[i % 128])
+    piece(t, l.pieces[i % MOST])
 }

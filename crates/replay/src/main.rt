@@ -7,11 +7,11 @@ use libc::STDIN_FILENO;
 ghost use mathlib.Core.Path.{_≡_};
 ghost use lib.ListN.{length};
 
-// Room for a case: a descriptor of two bytes more than the longest that is read, and 255 queries of 18 bytes.
-fn space() -> [u8; 2101745]
-    ensures { λ r. ⌜ 2101745 ≡ length r ⌝ }
+// Room for a case: a descriptor of two bytes more than the longest that is read, and 255 queries of 19 bytes.
+fn space() -> [u8; 2102000]
+    ensures { λ r. ⌜ 2102000 ≡ length r ⌝ }
 {
-    [0; 2101745]
+    [0; 2102000]
 }
 
 // Reads n bytes to a place, or says that they are not there.
@@ -33,7 +33,7 @@ fn read_case(c: &mut [u8]) -> usize {
     let n = case::half(c, 0) as usize;
     let after = n + 1;
     let told = read_some(c, 0, after);
-    let asked = case::byte(c, n) as usize * 18;
+    let asked = case::byte(c, n) as usize * 19;
     if told & read_some(c, after, asked) {
         return n;
     }

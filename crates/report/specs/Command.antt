@@ -38,7 +38,7 @@ walkBy Usage p = Usage
 unfoldable pub rangeOf : List ℕ → List ℕ → Command
 rangeOf a b = mapBy (numberOf largest a) (numberOf largest b)
 
--- PLACES: 0 to 128
+-- PLACES: 0 to as many as a walk can write
 unfoldable pub placesOf : List ℕ → List ℕ → List ℕ → Command
 placesOf a b c = walkBy (rangeOf a b) (numberOf most c)
 

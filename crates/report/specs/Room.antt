@@ -11,4 +11,4 @@ headMost = 200
 
 -- the bytes that the program has for an answer
 abbrev pub room : ℕ
-room = 81920
+room = 172032

@@ -17,7 +17,7 @@ use walk_lines::walk::put_walk;
 pub type InputSpace = [u8; 65537];
 
 // Room for any answer: that no answer is longer is a theorem (`answer-fits`).
-pub type AnswerSpace = [u8; 81920];
+pub type AnswerSpace = [u8; 172032];
 
 // Room for the input, blank.
 pub fn input_space() -> InputSpace
@@ -32,7 +32,7 @@ pub fn answer_space() -> AnswerSpace
     ensures { λ r. ⌜ r ≡ replicate room 0 ⌝ }
     ensures { λ r. ⌜ room ≡ length r ⌝ }
 {
-    [0; 81920]
+    [0; 172032]
 }
 
 // Puts what the program answers to some input.

@@ -1,6 +1,7 @@
 // What the program's arguments ask.
 ghost use mathlib.Core.Path.{_≡_};
 ghost use Rattle.report.specs.Command.{rangeOf, placesOf, commandOf};
+use lines::record::MOST;
 use text::find::is;
 use text::number::Num;
 use text::number::number;
@@ -32,12 +33,12 @@ fn range(a: &[u8], b: &[u8]) -> Command
     }
 }
 
-// OFFSET LENGTH PLACES: PLACES is 0 to 128.
+// OFFSET LENGTH PLACES: PLACES is 0 to as many as a walk can write.
 fn places(a: &[u8], b: &[u8], c: &[u8]) -> Command
     ensures { λ r. ⌜ r ≡ placesOf (now (a .entry)) (now (b .entry)) (now (c .entry)) ⌝ }
 {
     let asked = range(a, b);
-    let n = number(c, 128);
+    let n = number(c, MOST as u64);
     match asked {
         Command::Map(o, l) => match n {
             Num::Value(p) => Command::Walk(o, l, p as usize),

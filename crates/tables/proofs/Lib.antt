@@ -1,1 +1,5 @@
 pub mod Builds
+pub mod Endings
+pub mod Puts
+pub mod Into
+pub mod Built

@@ -1,8 +1,8 @@
-// Building the extent table: rows follow each other from 0, one for each extent.
-use crate::table::Built;
+// Building the extent table: rows follow each other from 0, one for each extent. The record and the table are lent: each function with a reference is thin, and proved by hand; what decides has plain parameters.
 use crate::table::Row;
 use crate::table::Source;
 use crate::table::Table;
+use lines::record::MOST;
 use lines::record::Record;
 use lines::record::Refusal;
 use lines::record::Text;
@@ -15,15 +15,38 @@ use text::sector::Bytes;
 use text::sector::Sectors;
 ghost use mathlib.Core.Path.{_≡_};
 ghost use mathlib.Core.List.{[]};
-ghost use Prim.Native.Nat.{_≤_};
-ghost use Rattle.lines.specs.Record.{filled, counted};
-ghost use Rattle.tables.specs.Build.{noRow, refused, rowsFrom, built, buildOf};
+ghost use Prim.Native.Nat.{_<_};
+ghost use Rattle.text.specs.Sector.{bytesUpto};
+ghost use Rattle.lines.specs.Record.{most, filled};
+ghost use Rattle.tables.specs.Build.{noRow, noTable, buildOf};
+ghost use Rattle.tables.specs.Into.{buildInto};
 ghost use Rattle.tables.specs.inside.Opening.{rowOf, openFile, openSource, openedOf};
+ghost use Rattle.tables.specs.inside.Stepping.{seenOf, endStep, stopStep, rowStep, stepOf, storedRow, sized};
 
 // What opening an extent gives: its row, or a refusal's number.
 enum Opened {
     Fits(Row),
     Refused(u8),
+}
+
+// What is looked at of a record at a step: how many extents it counts, and one of them.
+pub(crate) struct Seen {
+    pub count: usize,
+    pub extent: VmdkParsedExtent,
+}
+
+// Where building stands.
+pub(crate) struct Step {
+    // Whether there is one more row to store, where, and which
+    pub more: bool,
+    pub at: usize,
+    pub row: Row,
+    // How many rows there are with it, the place to look at next, and the disk's size so far
+    pub past: usize,
+    pub next: usize,
+    pub size: Bytes,
+    // The answer
+    pub verdict: Verdict,
 }
 
 // A row from its start up to its end.
@@ -44,12 +67,25 @@ pub fn no_row() -> Row
     row(0, 0, Source::NoAccess)
 }
 
-// 128 blank rows.
-fn no_rows() -> [Row; 128]
+// No row in any place.
+fn no_rows() -> [Row; MOST]
     ensures { λ r. ⌜ r ≡ filled noRow [] ⌝ }
 {
     let none = no_row();
-    [none; 128]
+    [none; MOST]
+}
+
+// The empty table: what a caller makes once, to lend.
+pub fn no_table() -> Table
+    ensures { λ r. ⌜ r ≡ noTable ⌝ }
+{
+    let size = Bytes::upto(0);
+    let rows = no_rows();
+    Table {
+        size,
+        count: 0,
+        rows,
+    }
 }
 
 // The row of a flat extent, whose file start is turned into bytes. (20)
@@ -108,58 +144,124 @@ fn open_implicit_extent(extent: VmdkParsedExtent, in_disk_offset: u64) -> Opened
     }
 }
 
-// A refused build: an empty table.
-fn refuse(number: u8, second: usize) -> Built
-    ensures { λ r. ⌜ r ≡ built (refused number second) ⌝ }
+// The end, with so many rows and the disk's size.
+fn ended(count: usize, size: Bytes, verdict: Verdict) -> Step
+    ensures { λ r. ⌜ r ≡ endStep count size verdict ⌝ }
 {
-    let rows = no_rows();
+    let row = no_row();
+    Step {
+        more: false,
+        at: 0,
+        row,
+        past: count,
+        next: 0,
+        size,
+        verdict,
+    }
+}
+
+// The end by a refusal: no rows.
+fn stopped(number: u8, second: usize) -> Step
+    ensures { λ r. ⌜ r ≡ stopStep number second ⌝ }
+{
     let refusal = Refusal { number, second };
     let verdict = Verdict::Refused(refusal);
     let size = Bytes::upto(0);
-    let table = Table {
-        size,
-        count: 0,
-        rows,
-    };
-    Built { verdict, table }
+    ended(0, size, verdict)
 }
 
-// The table of a record's extents, one after another.
-fn open_extents(record: Record) -> Built
-    requires { ⌜ «record» .count ≤ 128 ⌝ }
-    ensures { λ r. ⌜ r ≡ built (rowsFrom 0 0 (counted «record»)) ⌝ }
+// One more row, of extent i. There is always a place to look at next.
+fn one_more(row: Row, i: usize) -> Step
+    requires { ⌜ i < most ⌝ }
+    ensures { λ r. ⌜ r ≡ rowStep row i ⌝ }
 {
-    let count = record.count;
-    let mut rows = no_rows();
-    let mut size: u64 = 0;
-    let mut i: usize = 0;
-    while i < count {
-        let extent = record.extents[i];
-        let opened = open_implicit_extent(extent, size);
-        match opened {
-            Opened::Fits(row) => {
-                rows[i] = row;
-                let end = row.end;
-                size = end.offset();
-                i += 1;
-            }
-            Opened::Refused(number) => {
-                return refuse(number, i);
-            }
-        }
-    }
     let verdict = Verdict::Sound;
-    let size = Bytes::upto(size);
-    let table = Table { size, count, rows };
-    Built { verdict, table }
+    let size = row.end;
+    let past = i + 1;
+    Step {
+        more: true,
+        at: i,
+        row,
+        past,
+        next: past % MOST,
+        size,
+        verdict,
+    }
 }
 
-// The extent table of a record, also of a hand-made one. (23 first)
-pub fn build(record: Record) -> Built
-    ensures { λ r. ⌜ r ≡ buildOf «record» ⌝ }
+// The row of extent i, which starts at the disk's size so far. (23 first)
+fn step_at(v: Seen, i: usize, size: Bytes) -> Step
+    ensures { λ r. ⌜ r ≡ stepOf v i size ⌝ }
 {
-    if 128 < record.count {
-        return refuse(23, 0);
+    let count = v.count;
+    if MOST < count {
+        return stopped(23, 0);
     }
-    open_extents(record)
+    if count <= i {
+        return ended(count, size, Verdict::Sound);
+    }
+    let extent = v.extent;
+    let start = size.offset();
+    let opened = open_implicit_extent(extent, start);
+    match opened {
+        Opened::Fits(row) => one_more(row, i),
+        Opened::Refused(number) => stopped(number, i),
+    }
+}
+
+// The first extent's row, which starts at 0.
+fn begin(v: Seen) -> Step
+    ensures { λ r. ⌜ r ≡ stepOf v 0 (bytesUpto 0) ⌝ }
+{
+    let start = Bytes::upto(0);
+    step_at(v, 0, start)
+}
+
+// What the build answers.
+fn verdict_of(s: Step) -> Verdict
+    ensures { λ r. ⌜ r ≡ s .verdict ⌝ }
+{
+    s.verdict
+}
+
+// The record's count and extent i. By hand.
+pub(crate) fn seen_at(record: &Record, i: usize) -> Seen
+    requires { ⌜ i < most ⌝ }
+    ensures { λ r. ⌜ r ≡ seenOf (now («record» .entry)) i ⌝ }
+{
+    Seen {
+        count: record.count,
+        extent: record.extents[i],
+    }
+}
+
+// Stores one row. By hand.
+pub(crate) fn put_row(into: &mut Table, at: usize, row: Row)
+    requires { ⌜ at < most ⌝ }
+    ensures { λ _. ⌜ now (into .exit) ≡ storedRow (now (into .entry)) at row ⌝ }
+{
+    into.rows[at] = row;
+}
+
+// Stores the size and the count. By hand.
+pub(crate) fn put_size(into: &mut Table, size: Bytes, count: usize)
+    ensures { λ _. ⌜ now (into .exit) ≡ sized (now (into .entry)) size count ⌝ }
+{
+    into.size = size;
+    into.count = count;
+}
+
+// The extent table of a record, also of a hand-made one, in a table that is lent: the verdict is answered. By hand.
+pub fn build(record: &Record, into: &mut Table) -> Verdict
+    ensures { λ r. ⌜ (r ≡ buildOf (now («record» .entry)) .verdict) × (now (into .exit) ≡ buildInto (now («record» .entry)) (now (into .entry))) ⌝ }
+{
+    let v = seen_at(record, 0);
+    let mut s = begin(v);
+    while s.more {
+        put_row(into, s.at, s.row);
+        let v = seen_at(record, s.next);
+        s = step_at(v, s.past, s.size);
+    }
+    put_size(into, s.size, s.past);
+    verdict_of(s)
 }

@@ -1,4 +1,5 @@
 // The extent table: the disk's size and a row for each extent.
+use lines::record::MOST;
 use lines::record::Text;
 use lines::record::Verdict;
 use lines::record::VmdkAccessType;
@@ -21,11 +22,11 @@ pub struct Row {
     pub source: Source,
 }
 
-// The disk's size and the rows. Rows past the count are no access and zeros.
+// The disk's size and the rows. Places past the count are no access and zeros in a table that was empty before it was built.
 pub struct Table {
     pub size: Bytes,
     pub count: usize,
-    pub rows: [Row; 128],
+    pub rows: [Row; MOST],
 }
 
 // A table that was built, or an empty one with the refusal.
@@ -78,7 +79,7 @@ pub struct Piece {
 pub enum Stop {
     // Nothing is left, or the disk has ended
     Done,
-    // The list is full, or 128 pieces are written
+    // The list is full, or 1,024 pieces are written
     More,
     // A refusal's number (its second number is 0)
     Refused(u8),

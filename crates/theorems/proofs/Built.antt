@@ -157,3 +157,7 @@ size-grows (x ∷ xs) (suc i) (suc j) h = omega (arith, size-grows xs i j (omega
 
 pub size-all : (xs : List VmdkParsedExtent) (i : ℕ) → length xs ≤ i → sizeOf (take i xs) ≡ sizeOf xs
 size-all xs i h = ap sizeOf (take-all i xs h)
+
+-- what a sound build answers is the table that the record builds
+pub sound-build : (r : Record) → buildOf r .verdict ≡ Sound → Builds r (buildOf r .table)
+sound-build r e = λ i. record { verdict = e i; table = buildOf r .table }

@@ -1,5 +1,5 @@
 -- The parts joined are one walk into as many places as they have together, and a walk that has ended is the same with more places.
--- So two walks that have both ended are the same, and 128 places are enough.
+-- So two walks that have both ended are the same, and `most` places are enough.
 -- Assumes nothing.
 use Prim.Native.Nat.{ℕ, suc, _+_, _<_, _≤_, min}
 use native.Mathlib.Omega.{arith}
@@ -28,7 +28,7 @@ places-many n [] h = omega arith
 places-many n (m ∷ ns) h = omega (arith, places-many m ns (h .1))
 
 module _ (t : Table) (n : ℕ) (ns : List ℕ) (pos left : ℕ) where
-  -- a single walk, given 128 places
+  -- a single walk, given `most` places
   walk-most : t .count ≤ most → (places : ℕ) → most ≤ places → walkOf t places pos left ≡ walkFrom most t pos left
   walk-most h places l = let e : min places most ≡ most = omega arith in walk-of t places pos left h ∙ rw e
 

@@ -188,10 +188,10 @@ module _ (t : Table) (o asked : ℕ) where
       (λ g. rw (looked-search (leb-true _ _ e) (leb-false _ _ g)) (halve-looks (t .count) (t .rows) 0 (t .count) o k (omega arith))))
       (λ e. omega (arith, looked-23 (leb-false _ _ e)))
 
-  pub looked-eight : mapOf t o asked .looked ≤ 8
-  looked-eight =
+  pub looked-eleven : mapOf t o asked .looked ≤ 11
+  looked-eleven =
       by-test (leb (t .count) most)
-      (λ e. let g = leb-true (t .count) most e in looked-most 8 (omega arith))
+      (λ e. let g = leb-true (t .count) most e in looked-most 11 (omega arith))
       (λ e. omega (arith, looked-23 (leb-false _ _ e)))
 
   pub few-looks : FewLooks t o asked
@@ -201,7 +201,7 @@ module _ (t : Table) (o asked : ℕ) where
         steps = looked-search;
         refused = looked-23;
         end = looked-end;
-        eight = looked-eight;
+        eleven = looked-eleven;
         log = looked-most;
         found-row = λ i n e. let g = halve-found (t .count) (t .rows) 0 (t .count) o e in (g .1, g .2);
       }

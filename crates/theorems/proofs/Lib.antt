@@ -3,7 +3,6 @@ pub mod Built
 pub mod Continuing
 pub mod Counted
 pub mod Digits
-pub mod EmptyTables
 pub mod Encodings
 pub mod Enough
 pub mod ExtentLines
@@ -13,6 +12,7 @@ pub mod Joins
 pub mod KeyLines
 pub mod LastValues
 pub mod Least
+pub mod LentAgain
 pub mod Limits
 pub mod LineFaults
 pub mod LinePlaces
@@ -28,7 +28,6 @@ pub mod Over
 pub mod Places
 pub mod Probing
 pub mod RefusalNumbers
-pub mod Refusals
 pub mod Reports
 pub mod Rising
 pub mod Routes

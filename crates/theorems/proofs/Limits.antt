@@ -1,5 +1,5 @@
 -- The first no-access byte lies after every byte that can be read, and not after any that is locked.
--- Every mapping looks at no more than 8 rows, so a walk looks at 8 for each piece, and at 8 more where it is refused.
+-- Every mapping looks at no more than 11 rows, so a walk looks at 11 for each piece, and at 11 more where it is refused.
 -- Assumes nothing.
 use Prim.Native.Nat.{ℕ, zero, suc, _+_, _-_, _*_, _<_, _≤_, min, max}
 use native.Mathlib.Omega.{arith}
@@ -21,7 +21,7 @@ use Rattle.maps.specs.Place.{sizeOf, placeOf}
 use Rattle.maps.specs.Walk.{Walk, step, walkFrom}
 use Rattle.theorems.specs.Tiling.{isLocked, firstLocked, noAccessFrom, FirstNoAccess, Meets}
 use Rattle.text.proofs.Flat.{by-test}
-use Rattle.theorems.proofs.Halving.{looked-eight}
+use Rattle.theorems.proofs.Halving.{looked-eleven}
 use Rattle.theorems.proofs.Routes.{over-or-on, walk-full, walk-step}
 use Rattle.theorems.proofs.Tiles.{Why, Reached}
 
@@ -136,9 +136,9 @@ module _ (xs : List VmdkParsedExtent) where
 
 -- (g), of any table
 abbrev pub Few : Walk → Type 0
-Few w = w .looked ≤ 8 * length (w .pieces) + 8
+Few w = w .looked ≤ 11 * length (w .pieces) + 11
 
-few-step : (pos : ℕ) (m : ShallowMapping) (run n : ℕ) (after : Walk) → n ≤ 8 → Few after → Few (step pos m run n after)
+few-step : (pos : ℕ) (m : ShallowMapping) (run n : ℕ) (after : Walk) → n ≤ 11 → Few after → Few (step pos m run n after)
 few-step pos Eof run n after h f = omega arith
 few-step pos (Refused number) run n after h f = omega arith
 few-step pos (Zero i) run n after h f = omega arith
@@ -151,4 +151,4 @@ walk-few (suc room) t pos left =
     over-or-on t pos left (λ e. rw (e (suc room)) (omega arith))
     (λ c l. let m = mapOf t pos left in
     let w = walkFrom room t (pos + m .run) (left - m .run) in
-    rw (walk-step t pos left c l room) (few-step pos (m .mapping) (m .run) (m .looked) w (looked-eight t pos left) (walk-few room t (pos + m .run) (left - m .run))))
+    rw (walk-step t pos left c l room) (few-step pos (m .mapping) (m .run) (m .looked) w (looked-eleven t pos left) (walk-few room t (pos + m .run) (left - m .run))))

@@ -29,16 +29,17 @@ use Rattle.tables.specs.declared.table.PieceSource.{PieceSource}
 use Rattle.tables.specs.declared.table.PieceSource.the-variants.{Zero as ZeroPiece, Raw as RawPiece}
 use Rattle.tables.specs.declared.table.ShallowMapping.{ShallowMapping}
 use Rattle.tables.specs.declared.table.ShallowMapping.the-variants.{Eof, Zero as ZeroAt, Raw, Refused}
+use Rattle.maps.specs.Alike.{SameDisk}
 use Rattle.maps.specs.Map.{mapOf}
 use Rattle.maps.specs.Place.{Place, past as end, locked as lockedBy, zeros as zerosBy, file as fileBy, within, bytesIn, placeFrom, placeOf}
 use Rattle.maps.specs.Walk.{Walk}
-use Rattle.theorems.specs.Statements.{placeAfter, sayings, sayingsOf, extentsIn}
+use Rattle.theorems.specs.Statements.{placeAfter, sayings, sayingsOf, extentsIn, LineAt}
 use Rattle.theorems.specs.Rows.{Builds}
 use Rattle.theorems.specs.Maps.{shown, runAt, MapsBy}
 use Rattle.theorems.specs.Tiling.{sourceAt, Placed, Tiles}
-use Rattle.theorems.specs.NamedPlaces.{inQuotes, NamedPlace, past, locked, zeros, file, byteBy, byteFrom, placeBy, placeIn, nameAt, at, refused, seenBy, dueAt, TooFar, runBy, MapsNamed, pieceByte, PlacedBy, TilesNamed}
+use Rattle.theorems.specs.NamedPlaces.{inQuotes, NamedPlace, past, locked, zeros, file, byteBy, byteFrom, placeBy, placeIn, nameOf, nameAt, at, refused, seenBy, dueAt, TooFar, runBy, MapsNamed, pieceByte, PlacedBy, TilesNamed}
 use Rattle.theorems.proofs.Sayings.{extents-more}
-use Rattle.theorems.proofs.LineRows.{row-name}
+use Rattle.theorems.proofs.LineRows.{row-below, row-name}
 use Rattle.theorems.proofs.Tiles.{all-map}
 
 -- ---- a place by an extent's number, with the names that the numbers have
@@ -126,61 +127,65 @@ due-far (file name f w) = (
   λ h. let e = h .3 in let q : f ≡ h .1 = cc in let k : largest < f = rw q (h .4) in rw (lt-leb f largest k),
 )
 
--- ---- of a table that a descriptor builds
-module _ (d : List ℕ) (t : Table) (a : readOf d .verdict ≡ Sound) (b : Builds (readOf d .descriptor) t) where
-  row-names : Names (nameAt d t) 0 0 (linesOf d)
+-- ---- of a table u of the same disk as the one that a descriptor builds
+module _ (d : List ℕ) (u t : Table) (same : SameDisk u t) (a : readOf d .verdict ≡ Sound) (b : Builds (readOf d .descriptor) t) where
+  row-names : Names (nameAt d u) 0 0 (linesOf d)
   row-names before l after q s acc name start h =
-      let e : 0 + length (extentsIn (sayings 0 before)) ≡ length (extentsIn (sayings 0 before)) = omega arith in
-      rw e (row-name d t a b before l (placeAfter 0 before) (suc (length before)) (record { after = after; lines = q; place = refl; number = refl }) s acc name start h)
+      let i : ℕ = length (extentsIn (sayings 0 before)) in
+      let e : 0 + i ≡ i = omega arith in
+      let p : ℕ = placeAfter 0 before in
+      let at : LineAt d before l p (suc (length before)) = record { after = after; lines = q; place = refl; number = refl } in
+      let below : i < t .count = row-below d t a b before l p _ at (record { sectors = s; storage = Flat acc name start }) h in
+      rw e (ap (nameOf d) (same .rows i (rw (same .count) below) .source) ∙ row-name d t a b before l p _ at s acc name start h)
 
-  place-named : (o : ℕ) → placeIn d o ≡ named (nameAt d t) (placeOf (extentsIn (sayingsOf d)) o)
+  place-named : (o : ℕ) → placeIn d o ≡ named (nameAt d u) (placeOf (extentsIn (sayingsOf d)) o)
   unfolding placeIn placeOf
-  place-named o = lines-named (nameAt d t) 0 0 (linesOf d) row-names o
+  place-named o = lines-named (nameAt d u) 0 0 (linesOf d) row-names o
 
   -- a piece whose bytes have the places that the extents give them
-  piece-named : (s : PieceSource) (i f : ℕ) (w : Bool) (k : ℕ) → named (nameAt d t) (sourceAt s i f w k) ≡ pieceByte d t s i f w k
+  piece-named : (s : PieceSource) (i f : ℕ) (w : Bool) (k : ℕ) → named (nameAt d u) (sourceAt s i f w k) ≡ pieceByte d u s i f w k
   piece-named ZeroPiece i f w k = refl
   piece-named RawPiece i f w k = refl
 
-  placed-named : (p : Piece) → Placed (extentsIn (sayingsOf d)) p → PlacedBy d t p
+  placed-named : (p : Piece) → Placed (extentsIn (sayingsOf d)) p → PlacedBy d u p
   placed-named p h k l =
-      place-named (p .start + k) ∙ ap (named (nameAt d t)) (h k l) ∙ piece-named (p .source) (p .row) (p .«file_offset») (p .writable) k
+      place-named (p .start + k) ∙ ap (named (nameAt d u)) (h k l) ∙ piece-named (p .source) (p .row) (p .«file_offset») (p .writable) k
 
-  pub tiles-named : (start long : ℕ) (w : Walk) → Tiles (extentsIn (sayingsOf d)) start long w → TilesNamed d t start long w
+  pub tiles-named : (start long : ℕ) (w : Walk) → Tiles (extentsIn (sayingsOf d)) start long w → TilesNamed d u start long w
   tiles-named start long w h =
-      record { tiles = h; names = all-map (Placed (extentsIn (sayingsOf d))) (PlacedBy d t) placed-named (w .pieces) (h .places) }
+      record { tiles = h; names = all-map (Placed (extentsIn (sayingsOf d))) (PlacedBy d u) placed-named (w .pieces) (h .places) }
 
   -- what a mapping shows of a place
-  shown-due : (q : Place) → seenBy d t (shown q) ≡ dueAt (named (nameAt d t) q)
+  shown-due : (q : Place) → seenBy d u (shown q) ≡ dueAt (named (nameAt d u) q)
   shown-due end = refl
   shown-due (lockedBy i) = refl
   shown-due (zerosBy i) = refl
   shown-due (fileBy i f w) = by-test (leb f largest) (λ e. rw e) (λ e. rw e)
 
   -- a mapping is refused exactly if it shows the refusal
-  seen-refused : (m : ShallowMapping) (n : ℕ) → m ≡ Refused n ↔ seenBy d t m ≡ refused n
+  seen-refused : (m : ShallowMapping) (n : ℕ) → m ≡ Refused n ↔ seenBy d u m ≡ refused n
   seen-refused Eof n = (λ e. cc, λ e. cc)
   seen-refused (ZeroAt i) n = (λ e. cc, λ e. cc)
   seen-refused (Raw i f w) n = (λ e. cc, λ e. cc)
   seen-refused (Refused m) n = (λ e. let q : m ≡ n = cc in ap refused q, λ e. let q : m ≡ n = cc in ap Refused q)
 
-  module _ (o asked : ℕ) (h : MapsBy (extentsIn (sayingsOf d)) t o asked) where
-    shows : seenBy d t (mapOf t o asked .mapping) ≡ dueAt (placeIn d o)
-    shows = ap (seenBy d t) (h .mapping) ∙ shown-due (placeOf (extentsIn (sayingsOf d)) o) ∙ ap dueAt (sym (place-named o))
+  module _ (o asked : ℕ) (h : MapsBy (extentsIn (sayingsOf d)) u o asked) where
+    shows : seenBy d u (mapOf u o asked .mapping) ≡ dueAt (placeIn d o)
+    shows = ap (seenBy d u) (h .mapping) ∙ shown-due (placeOf (extentsIn (sayingsOf d)) o) ∙ ap dueAt (sym (place-named o))
 
-    refused-due : (n : ℕ) {P : Type 0} → dueAt (placeIn d o) ≡ refused n ↔ P → mapOf t o asked .mapping ≡ Refused n ↔ P
+    refused-due : (n : ℕ) {P : Type 0} → dueAt (placeIn d o) ≡ refused n ↔ P → mapOf u o asked .mapping ≡ Refused n ↔ P
     refused-due n e =
-        let m = seen-refused (mapOf t o asked .mapping) n in
+        let m = seen-refused (mapOf u o asked .mapping) n in
         (λ q. e .0 (sym shows ∙ m .0 q), λ q. m .1 (shows ∙ e .1 q))
 
-    pub maps-named : MapsNamed d t o asked
+    pub maps-named : MapsNamed d u o asked
     maps-named =
-        let ends = named-past (nameAt d t) (placeOf (extentsIn (sayingsOf d)) o) in
+        let ends = named-past (nameAt d u) (placeOf (extentsIn (sayingsOf d)) o) in
         record {
           shows = shows;
           no-access = refused-due 21 (due-locked (placeIn d o));
           too-far = refused-due 22 (due-far (placeIn d o));
           end = (λ e. h .end .0 (ends .0 (sym (place-named o) ∙ e)), λ e. place-named o ∙ ends .1 (h .end .1 e));
-          run = rw (place-named o, named-run (nameAt d t) (placeOf (extentsIn (sayingsOf d)) o)) (h .run);
+          run = rw (place-named o, named-run (nameAt d u) (placeOf (extentsIn (sayingsOf d)) o)) (h .run);
           row = h .mapping;
         }

@@ -15,7 +15,7 @@ use Rattle.text.specs.Sector.{largest}
 use Rattle.text.specs.Text.{trimmed}
 use Rattle.text.specs.declared.sector.Bytes.{Bytes}
 use Rattle.lines.specs.Line.{lineOf}
-use Rattle.lines.specs.Record.{most, mostBytes, noText, noExtent, descOf, noDesc, noRecord, recordOf, counted, refusal}
+use Rattle.lines.specs.Record.{most, filled, mostBytes, noText, noExtent, descOf, noDesc, noRecord, recordOf, counted, refusal}
 use Rattle.lines.specs.declared.line.Said.{Said}
 use Rattle.lines.specs.declared.line.Said.the-variants.{Extent, Refused as Said·Refused}
 use Rattle.lines.specs.declared.record.Record.{Record}
@@ -27,6 +27,10 @@ use Rattle.lines.specs.declared.record.VmdkAccessType.{VmdkAccessType}
 use Rattle.lines.specs.declared.record.VmdkAccessType.the-variants.{RW}
 use Rattle.lines.specs.declared.record.VmdkDesc.{VmdkDesc}
 use Rattle.lines.specs.declared.record.VmdkParsedExtent.{VmdkParsedExtent}
+use Rattle.descriptor.specs.Into.{storedOf, readInto}
+use Rattle.tables.specs.Into.{buildInto}
+use Rattle.tables.specs.declared.table.Mapping.{Mapping}
+use Rattle.theorems.specs.LentAgain.{fresh, Stored}
 use Rattle.descriptor.specs.Read.{leastBytes, sparse, readOf}
 use Rattle.tables.specs.Build.{noRow, noTable, tableOf, buildOf}
 use Rattle.tables.specs.declared.table.Built.{Built}
@@ -64,9 +68,9 @@ use Rattle.theorems.specs.Over.{SoundLines, SizeOver, SumOver, StartOver
 use Rattle.theorems.specs.Probing.{FirstSays}
 use Rattle.theorems.specs.Refusing.{NoAccessAt, FileOverAt, StopsWhere}
 use Rattle.theorems.specs.Rows.{Builds}
-use Rattle.theorems.specs.Statements.{ByLine, sayings, sayingsOf, extentsIn, AllSound, lastVersion, LineAt, ExtentIn}
-use Rattle.theorems.proofs.Theorems.{probed-when, given-24, last-values, row-from-line, line-has-row, mapping-names, demand-3-names, walk-only-counted, extent-lines, walk-once, names-within, refused-alone, opened-written, flat-line, empty-name, too-long, short-enough, report-empty, number-digits, answer-most, answer-fits, program-fits, answer-whole, accepted-when, built-when, refused-no-table, sound-builds, joint-places, mapping-21, mapping-22, mapping-23, walk-refused, walk-21, walk-22, walk-23, given-1, given-2, given-3, given-5-to-15, given-16, given-17, given-18, given-19, line-faults, building-18, building-19, building-20, building-23, reading-numbers, building-numbers, mapping-numbers, walking-numbers}
-use Rattle.theorems.proofs.SmallInputs.{read-sound, small, disk, many, crowd, small-sound, small-builds, build-sound, map-sound, first-line, empty-says, small-rows, not-17, empty-refused, joined-opens, shifted, joined-table, joined-holds, wrong-file, not-seen, joined-reaches, no-steps, whole, nameless, zeros, zeros-long, line-written, no-line, refused-is, walk-written, not-kept, not-shifted, not-few, twice-long, not-there}
+use Rattle.theorems.specs.Statements.{ByLine, sayings, sayingsOf, extentsIn, AllSound, lastVersion, LineAt, FirstRefused, ExtentIn}
+use Rattle.theorems.proofs.Theorems.{lent-again, built-again, reading-leaves, building-leaves, probed-when, given-24, last-values, row-from-line, line-has-row, mapping-names, demand-3-names, walk-only-counted, extent-lines, walk-once, names-within, refused-alone, opened-written, flat-line, empty-name, too-long, short-enough, report-empty, number-digits, answer-most, answer-fits, program-fits, answer-whole, accepted-when, built-when, refused-no-table, sound-builds, joint-places, mapping-21, mapping-22, mapping-23, walk-refused, walk-21, walk-22, walk-23, given-1, given-2, given-3, given-5-to-15, given-16, given-17, given-18, given-19, line-faults, building-18, building-19, building-20, building-23, reading-numbers, building-numbers, mapping-numbers, walking-numbers}
+use Rattle.theorems.proofs.SmallInputs.{map-zero, not-zero, not-emptied, not-dropped, not-behind, small-long, many-refused, read-sound, small, disk, many, crowd, small-sound, small-builds, build-sound, map-sound, first-line, empty-says, small-rows, not-17, empty-refused, joined-opens, shifted, joined-table, joined-holds, wrong-file, not-seen, joined-reaches, no-steps, whole, nameless, zeros, zeros-long, line-written, no-line, refused-is, walk-written, not-kept, not-shifted, not-few, twice-long, not-there}
 
 -- one answer meets a statement, and another does not
 abbrev Tells : {A : Type 0} → (A → Type 0) → A → A → Type 0
@@ -209,6 +213,33 @@ walk-once-tells = (walk-once, λ s. absurd (omega (arith, s small disk small-bui
 walk-only-counted-tells : Tells (λ (left : Walk → List Piece → List Piece). (t : Table) (list : List Piece) (pos long i : ℕ) (none : Piece) → countOf t list pos long ≤ i → getD (left (walkWith t list pos long) list) i none ≡ getD list i none) listed (λ w list. [])
 walk-only-counted-tells =
     (λ t list pos long i none h. walk-only-counted t list pos long .kept-at i none h, λ s. let e : _≡_ {A = ℕ} 1 0 = ap (λ (p : Piece). p .start) (s noTable (noPiece ∷ []) 0 0 0 (rawPiece 1 1 1 1 true) no-steps) in absurd (omega (arith, e)))
+
+-- ---- memory that is lent again: a record and a table left as they were, one emptied, nothing stored, the lines behind a refused one stored too, a refusal that leaves a count
+lent-record-tells : Tells (λ (into : List ℕ → Record → Record). (d : List ℕ) (r : Record) → counted (into d r) ≡ counted (readOf d .descriptor)) readInto (λ d r. r)
+unfolding readOf filled counted
+lent-record-tells =
+    (λ d r. lent-again d r noTable .extents, λ s. let e : _≡_ {A = ℕ} 1 0 = ap length (s [] small) in absurd (omega (arith, e)))
+
+lent-table-tells : Tells (λ (into : Record → Table → Table). (d : List ℕ) (r : Record) (t : Table) (o asked : ℕ) → mapOf (into (readInto d r) t) o asked ≡ mapOf (fresh d) o asked) buildInto (λ r t. t)
+lent-table-tells =
+    (λ d r t o asked. lent-again d r t .maps o asked, λ s. let e = ap (λ (m : Mapping). m .mapping) (s [] noRecord disk 0 1) in not-zero (sym map-zero ∙ e))
+
+built-again-tells : Tells (λ (into : Record → Table → Table). (r : Record) (t : Table) (o asked : ℕ) → mapOf (into r t) o asked ≡ mapOf (buildOf r .table) o asked) buildInto (λ r t. t)
+built-again-tells =
+    (λ r t o asked. built-again r t .maps o asked, λ s. let e = ap (λ (m : Mapping). m .mapping) (s (readOf [] .descriptor) disk 0 1) in not-zero (sym map-zero ∙ e))
+
+reading-leaves-tells : Tells (λ (into : List ℕ → Record → Record). (d : List ℕ) (r : Record) → length (r .extents) ≡ most → Stored (r .extents) (storedOf d) (into d r .extents)) readInto (λ d r. noRecord)
+reading-leaves-tells = (λ d r. reading-leaves d r .places, λ s. not-emptied (s [] small small-long))
+
+reading-whole-tells : Tells (λ (stored : List ℕ → List VmdkParsedExtent). (d : List ℕ) → ByLine d → AllSound (sayingsOf d) → stored d ≡ extentsIn (sayingsOf d)) storedOf (λ d. [])
+reading-whole-tells = (λ d. reading-leaves d noRecord .whole, not-dropped)
+
+reading-before-tells : Tells (λ (stored : List ℕ → List VmdkParsedExtent). (d l : List ℕ) (n k : ℕ) → ByLine d → (f : FirstRefused d l n k) → stored d ≡ extentsIn (sayings 0 (f .before))) storedOf (λ d. extentsIn (sayingsOf d))
+reading-before-tells = (λ d. reading-leaves d noRecord .before, not-behind)
+
+building-leaves-tells : Tells (λ (into : Record → Table → Table). (r : Record) (t : Table) (x : Refusal) → buildOf r .verdict ≡ Refused x → (into r t .count ≡ 0) × (into r t .size .0 ≡ 0)) buildInto (λ r t. t)
+building-leaves-tells =
+    (λ r t. building-leaves r t .refused, λ s. absurd (omega (arith, s many disk (record { number = 23; second = 0 }) many-refused .0, small-rows)))
 
 -- ---- the report, and the program's answers: nothing written, an empty name without the space, 24 for each input, an answer that is longer, a buffer left as it was
 refused-alone-tells : Tells (λ (report : List ℕ → List ℕ). (d : List ℕ) (x : Refusal) → RefusedBy d x → report d ≡ probeLine (probeOf d) ++ refusedLine x) reportOf (λ d. [])

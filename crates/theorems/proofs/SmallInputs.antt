@@ -1,8 +1,8 @@
 -- Small inputs that are answered without a refusal, and what cannot be said of them: what the wrong answers of RuledOut.antt come to.
 -- Each answer is computed, or follows from a theorem of the page.
-use Prim.Native.Nat.{ℕ, suc, _+_, _*_, _^_, _≤_, _<_}
+use Prim.Native.Nat.{ℕ, suc, _+_, _-_, _*_, _^_, _≤_, _<_}
 use native.Mathlib.Omega.{arith}
-use mathlib.Core.List.{List, [], _∷_, _++_}
+use mathlib.Core.List.{List, [], _∷_, _++_, map}
 use mathlib.Core.Logic.{_⊎_, inl, inr}
 use mathlib.Core.Bool.{Bool, true}
 use mathlib.Core.Path.{_≡_, refl, sym, ap, subst, _∙_}
@@ -16,20 +16,22 @@ use Rattle.text.specs.Blank.{blank}
 use Rattle.text.specs.Find.{findFrom, findAt, same, begins}
 use Rattle.text.specs.Number.{allDigits, value, digitsOf, digitsAt, signOf, numberOf}
 use Rattle.text.specs.Lines.{linesOf, joinLines}
-use Rattle.keys.specs.Key.{keyOf}
+use Rattle.keys.specs.Key.{geometryKey, keyOf}
 use Rattle.lines.specs.Kept.{keptAt, keptOf}
 use Rattle.lines.specs.Extent.{secondOf, thirdOf, threeWords, fileNameOf, fileStartOf, flatLine, noAccessLine, extentLine}
 use Rattle.text.specs.Sector.{sectorsOf, bytesOf}
 use Rattle.text.specs.Text.{textFrom, textAt, sound, dropBlanks, lastEnd, trimText, trimOf, trimmed, runText, runOf, wordOf}
 use Rattle.lines.specs.Line.{versionOf, valueOf, keyLine, accessWord as wordOfAccess, accessLine, textLine, lineOf}
-use Rattle.lines.specs.Record.{most, noText, noDesc, recordOf, filled, counted, refusal}
+use Rattle.lines.specs.Record.{most, mostBytes, noText, noExtent, noDesc, noRecord, recordOf, filled, counted, refusal}
 use Rattle.lines.specs.declared.line.Said.the-variants.{Nothing, Extent}
 use Rattle.lines.specs.declared.record.Record.{Record}
 use Rattle.lines.specs.declared.record.Verdict.the-variants.{Sound}
 use Rattle.lines.specs.declared.record.VmdkAccessType.the-variants.{RW}
 use Rattle.lines.specs.declared.record.VmdkParsedExtent.{VmdkParsedExtent}
 use Rattle.lines.specs.declared.record.VmdkParsedStorage.the-variants.{Zero, Flat}
-use Rattle.descriptor.specs.Read.{setOf, sizesFrom, checked, readLines, readOf}
+use Rattle.descriptor.specs.Into.{saidBefore, storedOf}
+use Rattle.theorems.specs.LentAgain.{fresh, Stored}
+use Rattle.descriptor.specs.Read.{leastBytes, setOf, sizesFrom, checked, readLines, readOf}
 use Rattle.tables.specs.Build.{noTable, rowsFrom, buildOf}
 use Rattle.tables.specs.declared.table.Row.{Row}
 use Rattle.tables.specs.declared.table.ShallowMapping.the-variants.{Zero as ZeroAt, Raw, Refused as Mapped·Refused}
@@ -54,10 +56,10 @@ use Rattle.theorems.specs.Reports.{Opens, total, nameBytes}
 use Rattle.theorems.specs.NamedPlaces.{NamedPlace, past, locked, zeros as zeros-there, file, placeIn, nameOf, nameAt, Seen, at, refused, seenBy, dueAt, FromLine}
 use Rattle.theorems.specs.NamedCases.{joined}
 use Rattle.theorems.specs.Rows.{Builds, rowAt}
-use Rattle.theorems.specs.Statements.{placeAfter, sayings, sayingsOf, extentsIn, LineAt}
+use Rattle.theorems.specs.Statements.{ByLine, placeAfter, sayings, sayingsOf, extentsIn, refuses, AllSound, LineAt, FirstRefused}
 use Rattle.theorems.proofs.Verdicts.{accepted-extents}
 use Rattle.theorems.proofs.LineRows.{row-source}
-use Rattle.theorems.proofs.Theorems.{row-from-line, short-enough, report-empty, accepted-when, sound-builds, joint-places}
+use Rattle.theorems.proofs.Theorems.{row-from-line, short-enough, report-empty, accepted-when, sound-builds, joint-places, first-refused, reading-leaves}
 
 -- ---- what is read, built, mapped and walked without a refusal
 pub read-sound : (n k : ℕ) → readOf joined .verdict ≡ refusal n k → ⊥
@@ -245,3 +247,49 @@ not-there e =
     let w = short-enough [] Report (omega arith) ∙ report-empty in
     let g : take 21 (zeros room) ≡ lines ("probe no" ∷ "refused 1 0" ∷ []) = rw w at e in
     let h : _≡_ {A = ℕ} 0 0x70 = ap (λ (x : List ℕ). getD x 0 0) g in absurd (omega (arith, h))
+
+-- ---- memory that was used before
+pub small-long : length (small .extents) ≡ most
+unfolding filled
+small-long = simp length-append (omega (arith, length-replicate {A = VmdkParsedExtent} (most - 1) noExtent))
+
+pub many-refused : buildOf many .verdict ≡ refusal 23 0
+unfolding buildOf
+many-refused = refl
+
+-- nothing is mapped of a disk that is not there
+pub not-zero : ZeroAt 0 ≡ mapOf (fresh []) 0 1 .mapping → ⊥
+unfolding readOf filled counted rowsFrom buildOf mapOf
+not-zero e = let z : _≡_ {A = ℕ} 0 1 = cc in absurd (omega arith)
+
+-- what was stored before is kept
+pub not-emptied : Stored (small .extents) (storedOf []) (noRecord .extents) → ⊥
+unfolding storedOf filled
+not-emptied w =
+    let e : _≡_ {A = ℕ} 0 1 = ap (λ (x : VmdkParsedExtent). x .sectors .0) (w .kept 0 noExtent (omega arith)) in absurd (omega (arith, e))
+
+-- an extent line, and one behind a line that is refused: the one is stored, the other is not
+abbrev pub alone : List ℕ
+alone = ascii "RW 1 ZERO"
+
+abbrev pub behind : List ℕ
+behind = joinLines (map ascii ("x=" ∷ "RW 1 ZERO" ∷ []))
+
+pub alone-holds : ByLine alone × AllSound (sayingsOf alone) × (length (extentsIn (sayingsOf alone)) ≡ 1)
+unfolding sectorsOf leadOf tailOf charOf blank textFrom textAt sound dropBlanks lastEnd trimText trimOf trimmed runText runOf wordOf findFrom findAt same begins allDigits value digitsOf digitsAt signOf numberOf linesOf joinLines keyOf keptAt keptOf secondOf thirdOf threeWords fileNameOf fileStartOf flatLine extentLine versionOf valueOf keyLine wordOfAccess accessLine textLine lineOf sayings refuses extentsIn
+alone-holds = (record { least = leb-true leastBytes (length alone) refl; small = leb-true (length alone) mostBytes refl; plain = refl }, (refl, leb-true 1 most refl), refl)
+
+pub behind-holds : (readOf behind .verdict ≡ refusal 15 1) × (length (storedOf behind) ≡ 0) × (length (extentsIn (sayingsOf behind)) ≡ 1)
+unfolding sectorsOf leadOf tailOf charOf blank textFrom textAt sound dropBlanks lastEnd trimText trimOf trimmed runText runOf wordOf findFrom findAt same begins allDigits value digitsOf digitsAt signOf numberOf linesOf joinLines geometryKey keyOf keptAt keptOf secondOf thirdOf threeWords fileNameOf fileStartOf flatLine extentLine versionOf valueOf keyLine wordOfAccess accessLine textLine lineOf readLines readOf saidBefore storedOf sayings extentsIn
+behind-holds = (refl, refl, refl)
+
+pub not-dropped : ((d : List ℕ) → ByLine d → AllSound (sayingsOf d) → [] ≡ extentsIn (sayingsOf d)) → ⊥
+not-dropped s = let e : _≡_ {A = ℕ} 0 1 = ap length (s alone (alone-holds .0) (alone-holds .1)) ∙ alone-holds .2 in absurd (omega (arith, e))
+
+pub not-behind : ((d l : List ℕ) (n k : ℕ) → ByLine d → (f : FirstRefused d l n k) → extentsIn (sayingsOf d) ≡ extentsIn (sayings 0 (f .before))) → ⊥
+not-behind s =
+    let w = first-refused behind 15 1 (omega arith) (omega arith) .0 (behind-holds .0) in
+    let l = w .1 .0 in
+    let f = w .1 .1 in
+    let e : _≡_ {A = ℕ} 1 0 = sym (behind-holds .2) ∙ ap length (s behind l 15 1 (w .0) f ∙ sym (reading-leaves behind noRecord .before l 15 1 (w .0) f)) ∙ behind-holds .1 in
+    absurd (omega (arith, e))

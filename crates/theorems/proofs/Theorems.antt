@@ -23,7 +23,7 @@ use Rattle.lines.specs.declared.record.Verdict.the-variants.{Sound, Refused}
 use Rattle.lines.specs.declared.record.VmdkAccessType.{VmdkAccessType}
 use Rattle.lines.specs.declared.record.VmdkParsedStorage.the-variants.{Flat as Parsed·Flat}
 use Rattle.lines.specs.declared.record.VmdkParsedExtent.{VmdkParsedExtent}
-use Rattle.theorems.proofs.Refusals.{emptied}
+use Rattle.descriptor.proofs.Intos.{refused-none as read-none}
 use Rattle.theorems.proofs.Verdicts.{line-refused, line-no-text, accepted-lines, accepted-extents}
 use Rattle.theorems.proofs.Versions.{probe-accepted, last-accepted, probe-refused, last-refused}
 use Rattle.theorems.proofs.LinePlaces.{lies}
@@ -34,6 +34,7 @@ use Rattle.theorems.proofs.LastValues.{last-held}
 use Rattle.lines.specs.declared.record.Record.{Record}
 use Rattle.tables.specs.declared.table.Table.{Table}
 use Rattle.maps.specs.Place.{Reachable, sizeOf}
+use Rattle.maps.proofs.Alike.{disk-itself}
 use Rattle.maps.specs.Walk.{walkOf}
 use Rattle.theorems.specs.Rows.{Builds, InRows}
 use Rattle.theorems.specs.Looks.{Finds, FewLooks}
@@ -54,11 +55,14 @@ use Rattle.tables.specs.Build.{noTable, buildOf}
 use Rattle.theorems.specs.NamedPlaces.{inQuotes, FromLine, placeIn, MapsNamed, TilesNamed}
 use Rattle.theorems.specs.NamedCases.{joined, Joint, joints}
 use Rattle.theorems.specs.Counted.{OnlyCounted}
+use Rattle.theorems.specs.LentAgain.{BuiltAgain, fresh, LentAgain, ReadLeaves, BuildLeaves}
 use Rattle.theorems.proofs.LineRows.{quotes-in, from-line, row-below}
 use Rattle.theorems.proofs.NamedPlaces.{maps-named, tiles-named}
 use Rattle.theorems.proofs.NamedCases.{joints-due}
 use Rattle.theorems.proofs.Counted.{only-counted}
-use Rattle.theorems.proofs.EmptyTables.{emptied-build, sound-build}
+use Rattle.theorems.proofs.LentAgain.{built-alike, lent-alike, read-leaves, build-leaves}
+use Rattle.tables.proofs.Into.{refused-none as built-none}
+use Rattle.theorems.proofs.Built.{sound-build}
 use native.Mathlib.Omega.{arith}
 use Rattle.text.specs.Ascii.{ascii}
 use Rattle.text.specs.Sector.{largest}
@@ -117,7 +121,7 @@ last-values = last-held
 
 -- A refused read answers the empty record.
 pub refused-empty : (t : List ℕ) (r : Refusal) → readOf t .verdict ≡ Refused r → readOf t .descriptor ≡ noRecord
-refused-empty t r e = emptied t r e
+refused-empty = read-none
 
 -- Read accepts exactly if the lines and the version are sound and the sum of the sizes is within 2^64-1.
 pub accepted-when : (d : List ℕ) → (readOf d .verdict ≡ Sound) ↔ (SoundLines d × (sizeOf (extentsIn (sayingsOf d)) ≤ largest))
@@ -147,7 +151,7 @@ built-when = build-sound
 
 -- A refused build answers the empty table ..
 pub refused-no-table : (r : Record) (x : Refusal) → buildOf r .verdict ≡ Refused x → buildOf r .table ≡ noTable
-refused-no-table = emptied-build
+refused-no-table = built-none
 
 -- .. and one that is not refused, the table that the record builds.
 pub sound-builds : (r : Record) → buildOf r .verdict ≡ Sound → Builds r (buildOf r .table)
@@ -175,7 +179,7 @@ joint-places = joints-due
 pub halving-finds : (r : Record) (t : Table) → Builds r t → (o : ℕ) → o < t .size .0 → Finds t o
 halving-finds = built-finds
 
--- On any table, the count of rows looked at is 0 for refusal 23 or an offset at or past the size, at most 8, and for n rows (n at least 1) at most 1 + the whole part of log2 n.
+-- On any table, the count of rows looked at is 0 for refusal 23 or an offset at or past the size, at most 11, and for n rows (n at least 1) at most 1 + the whole part of log2 n.
 pub halving-looks : (t : Table) (o asked : ℕ) → FewLooks t o asked
 halving-looks = few-looks
 
@@ -190,10 +194,10 @@ mapping-places-bytes d t a b o asked =
 
 -- For any descriptor that reads and whose record builds, mapping gives each offset the place that the descriptor's own lines give it: kind, name, file offset and writable, with 21 and 22 exactly where they are due.
 pub mapping-names : (d : List ℕ) (t : Table) → readOf d .verdict ≡ Sound → Builds (readOf d .descriptor) t → (o asked : ℕ) → MapsNamed d t o asked
-mapping-names d t a b o asked = maps-named d t a b o asked (mapping-places-bytes d t a b o asked)
+mapping-names d t a b o asked = maps-named d t t (disk-itself t) a b o asked (mapping-places-bytes d t a b o asked)
 
 -- ---- demand 3, and the walk
--- Demand 3. Take any built table in which each flat extent's file start plus its length is at most 2^64. A walk over any range, given as many list places as a table has room for rows, writes pieces that tile the range up to the first of its end, the disk's end and a no-access byte, each byte at the place that the extents give it, with one piece for each non-empty readable extent met and no shorter tiling by single-extent pieces. It stops with refusal 21 exactly if a no-access byte lies in the range, and otherwise with Done. The walk looks at no more than 8 rows a piece and 8 besides.
+-- Demand 3. Take any built table in which each flat extent's file start plus its length is at most 2^64. A walk over any range, given as many list places as a table has room for rows, writes pieces that tile the range up to the first of its end, the disk's end and a no-access byte, each byte at the place that the extents give it, with one piece for each non-empty readable extent met and no shorter tiling by single-extent pieces. It stops with refusal 21 exactly if a no-access byte lies in the range, and otherwise with Done. The walk looks at no more than 11 rows a piece and 11 besides.
 pub demand-3 : (r : Record) (t : Table) → Builds r t → Reachable (counted r) → (places start long : ℕ) → most ≤ places → Tiles (counted r) start long (walkOf t places start long)
 demand-3 = built-tiles
 
@@ -207,7 +211,7 @@ demand-3-bytes d t a b h places start long m =
 -- Demand 3 with names: for any descriptor that reads and builds, and in which each flat extent's file start plus its length is at most 2^64, a walk over any range, given as many list places as a table has room for rows, writes pieces that tile it up to the first of its end, the disk's end and a no-access byte, and for every byte of every piece, kind, name, file offset and writable are those that the descriptor's own lines give to that byte of the disk.
 pub demand-3-names : (d : List ℕ) (t : Table) → readOf d .verdict ≡ Sound → Builds (readOf d .descriptor) t → Reachable (extentsIn (sayingsOf d)) → (places start long : ℕ) → most ≤ places → TilesNamed d t start long (walkOf t places start long)
 demand-3-names d t a b h places start long m =
-    tiles-named d t a b start long (walkOf t places start long) (demand-3-bytes d t a b h places start long m)
+    tiles-named d t t (disk-itself t) a b start long (walkOf t places start long) (demand-3-bytes d t a b h places start long m)
 
 -- Two words of demand 3, told by the bytes' places alone: the first no-access byte at or after a place, ..
 pub first-no-access : (xs : List VmdkParsedExtent) (start : ℕ) → FirstNoAccess xs start (noAccessFrom xs start)
@@ -228,6 +232,22 @@ continuing-joins = continues
 -- On a built table the stop, the position and the sum of the long walk are those of the last part, the last part, and the parts added up.
 pub continuing-whole : (r : Record) (t : Table) → Builds r t → (n : ℕ) (ns : List ℕ) (pos left : ℕ) → ContinuesWhole t n ns pos left
 continuing-whole = built-continues
+
+-- Memory that is lent again: a descriptor read into any record, and built from it into any table, in whatever state the two were, gives mappings and walks that depend on the descriptor alone, each byte at the place that the descriptor's own lines give it. Nothing of an earlier reel can shine through.
+pub lent-again : (d : List ℕ) (r : Record) (t : Table) → LentAgain d r t
+lent-again d r t = lent-alike d r t (mapping-places-bytes d (fresh d)) (demand-3-bytes d (fresh d))
+
+-- The same of a record made by hand: built into any table, in whatever state that was, it gives the mappings and walks of the table that the record alone builds, of which `mapping-places` and `demand-3` speak.
+pub built-again : (r : Record) (t : Table) → BuiltAgain r t
+built-again = built-alike
+
+-- What reading leaves in a record that is lent: count 0 and start values if it is refused, in the first places the extents of the lines before the refused one, or of all lines, and every other place as it was.
+pub reading-leaves : (d : List ℕ) (r : Record) → ReadLeaves d r
+reading-leaves = read-leaves
+
+-- What building leaves in a table that is lent: count 0 and size 0 if it is refused, in the first places what was stored before the refusal, or all rows, and every other place as it was.
+pub building-leaves : (r : Record) (t : Table) → BuildLeaves r t
+building-leaves = build-leaves
 
 -- The marked cases of document 01, K1 to K12, and more beside them, as one table: each gives what is due.
 pub marked-cases : map (λ (c : Case). c .got) cases ≡ map (λ (c : Case). c .due) cases

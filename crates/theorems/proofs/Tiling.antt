@@ -56,7 +56,7 @@ tiles-in xs short reach places start long h =
     rw (le-leb (t .count) most c, e)
     (tiles xs start long (walkFrom most t start long) (walk-takes xs t (λ o asked. maps-in xs o asked short) refl most start long reach short) (walk-few most t start long))
 
--- a walk over a built table, given 128 list places
+-- a walk over a built table, given `most` list places
 pub built-tiles : (r : Record) (t : Table) → Builds r t → Reachable (counted r) → (places start long : ℕ) → most ≤ places → Tiles (counted r) start long (walkOf t places start long)
 built-tiles r t b reach places start long h =
     let g = table-laid r t b in

@@ -30,7 +30,7 @@ use Rattle.puts.proofs.Theorems.{digits-read-back}
 use Rattle.phrases.specs.Line.{spaced, field, line, linesFrom, linesTo, refusedLine}
 use Rattle.disk_lines.specs.Report.{probeLine, reportOf}
 use Rattle.map_lines.specs.Map.{mappingWords}
-use Rattle.walk_lines.specs.Walk.{pieceLine, stopText, stopLine, walkLines}
+use Rattle.walk_lines.specs.Walk.{pieceFrom, pieceLine, stopText, stopLine, walkLines}
 use Rattle.report.specs.Command.{mostInput, said, answerOf}
 use Rattle.report.specs.declared.command.Command.{Command}
 use Rattle.report.specs.declared.command.Command.the-variants.{Report, Map, Walk as Walks, Usage}
@@ -132,7 +132,7 @@ stop-due More rest h e = let f : _≡_ {A = ℕ} 0x6D 0x72 = ap (λ (x : List �
 stop-due (Stopped k) rest h e = refused-number k (spaced (ascii "0 at") ++ rest) (h k refl) (sym (stop-words k rest) ∙ e)
 
 walk-due : (d : List ℕ) (rows : List Row) (ps : List Piece) (s : Stop) (rest : List ℕ) → ((k : ℕ) → s ≡ Stopped k → k ≤ 23) → linesTo (pieceLine d rows) ps (length ps) ++ (stopText s ++ rest) ≡ due → ⊥
-unfolding linesTo linesFrom pieceLine line spaced
+unfolding linesTo linesFrom pieceFrom pieceLine line spaced
 walk-due d rows [] s rest h e = stop-due s rest h e
 walk-due d rows (p ∷ ps) s rest h e = number-first (p .start) _ (simp append-assoc at e)
 

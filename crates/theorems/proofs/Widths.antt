@@ -26,7 +26,7 @@ use Rattle.tables.specs.declared.table.ShallowMapping.the-variants.{Eof, Zero a
 use Rattle.phrases.specs.Line.{spaced, ended, field, line, nameOf, sourceAt, accessWord, modeWord, refusedLine}
 use Rattle.disk_lines.specs.Report.{probeLine, sourceWords, rowLine, headLines}
 use Rattle.map_lines.specs.Map.{mappingLine, mappingWords}
-use Rattle.walk_lines.specs.Walk.{pieceWords, pieceLine, stopText, stopLine}
+use Rattle.walk_lines.specs.Walk.{pieceWords, pieceFrom, pieceLine, stopText, stopLine}
 use Rattle.report.specs.Room.{rowMost}
 use Rattle.theorems.proofs.Digits.{decimal-short}
 
@@ -113,14 +113,14 @@ pub record Numbered (p : Piece) : Type 0 where
   pub row : p .row ≤ largest
   pub offset : p .«file_offset» ≤ largest
 
-words-short : (d : List ℕ) (rows : List Row) (p : Piece) (s : PieceSource) → Numbered p → long (pieceWords d rows p s) ≤ 58 + length (nameOf d (sourceAt rows (p .row)))
-words-short d rows p Zeros h = omega (arith, decimal-short _ (h .row))
-words-short d rows p File h = omega (arith, decimal-short _ (h .row), decimal-short _ (h .offset), mode-short (p .writable))
+words-short : (d : List ℕ) (x : Source) (p : Piece) (s : PieceSource) → Numbered p → long (pieceWords d x p s) ≤ 58 + length (nameOf d x)
+words-short d x p Zeros h = omega (arith, decimal-short _ (h .row))
+words-short d x p File h = omega (arith, decimal-short _ (h .row), decimal-short _ (h .offset), mode-short (p .writable))
 
 pub piece-short : (d : List ℕ) (rows : List Row) (k : ℕ) (p : Piece) → Numbered p → length (pieceLine d rows k p) ≤ rowMost + length (nameOf d (sourceAt rows (p .row)))
-unfolding pieceLine
+unfolding pieceFrom pieceLine
 piece-short d rows k p h =
-    rw line-long (omega (arith, decimal-short _ (h .start), decimal-short _ (h .run), words-short d rows p (p .source) h))
+    rw line-long (omega (arith, decimal-short _ (h .start), decimal-short _ (h .run), words-short d (sourceAt rows (p .row)) p (p .source) h))
 
 -- a refusal's number is of 64 bits
 abbrev pub Stops : Stop → Type 0

@@ -1,12 +1,12 @@
 -- The marked cases K1 to K12 of document 01, and more beside them, as one table: what is asked, and what is due.
-use Prim.Native.Nat.{ℕ}
+use Prim.Native.Nat.{ℕ, suc}
 use Prim.Native.String.{String}
 use mathlib.Core.List.{List, [], _∷_, _++_}
 use mathlib.Core.Bool.{Bool, true, false}
 use Rattle.text.specs.Ascii.{ascii}
 use Rattle.probing.specs.Probe.{probeOf}
 use Rattle.descriptor.specs.Read.{readOf}
-use Rattle.lines.specs.Record.{noText, noExtent, noDesc, descOf, filled, recordOf, refusal}
+use Rattle.lines.specs.Record.{most, noText, noExtent, noDesc, descOf, filled, recordOf, refusal}
 use Rattle.lines.specs.declared.record.Record.{Record}
 use Rattle.lines.specs.declared.record.Verdict.{Verdict}
 use Rattle.lines.specs.declared.record.Verdict.the-variants.{Sound}
@@ -81,10 +81,10 @@ builds xs due = is (building (buildOf (recordOf noDesc xs) .verdict)) (building 
 abbrev maps : Table → ℕ → ℕ → ShallowMapping → ℕ → ℕ → Case
 maps t o asked m run looked = is (mapping (mapOf t o asked)) (mapping (record { mapping = m; run = run; looked = looked }))
 
--- a walk with 128 places
+-- a walk with `most` places
 abbrev walks : Table → ℕ → ℕ → List Piece → Stop → ℕ → ℕ → Case
 walks t start long pieces stop position looked =
-    is (walking (walkOf t 128 start long)) (walking (record { pieces = pieces; stop = stop; position = position; looked = looked }))
+    is (walking (walkOf t most start long)) (walking (record { pieces = pieces; stop = stop; position = position; looked = looked }))
 
 -- the report's descriptor
 abbrev pub report : List String
@@ -111,12 +111,12 @@ reel =
 abbrev far : ℕ → List VmdkParsedExtent
 far n = extent n (Flat RW noText (record { 0 = 36028797018963967 })) ∷ []
 
--- a record, and a table, with a count above 128
+-- a record, and a table, with a count above `most`
 abbrev full : Record
-full = record { desc = noDesc; count = 129; extents = filled noExtent [] }
+full = record { desc = noDesc; count = suc most; extents = filled noExtent [] }
 
 abbrev fullTable : Table
-fullTable = record { size = record { 0 = 4096 }; count = 129; rows = filled noRow [] }
+fullTable = record { size = record { 0 = 4096 }; count = suc most; rows = filled noRow [] }
 
 unfoldable pub cases : List Case
 cases =

@@ -2,6 +2,7 @@ pub mod Cases
 pub mod Continuing
 pub mod Counted
 pub mod GivenWhen
+pub mod LentAgain
 pub mod LineWords
 pub mod Looks
 pub mod Maps

@@ -25,8 +25,8 @@ pub record FewLooks (t : Table) (o asked : ℕ) : Type 0 where
   -- 0 for refusal 23 or when the offset is at or past the size
   pub refused : most < t .count → mapOf t o asked .looked ≡ 0
   pub end : t .size .0 ≤ o → mapOf t o asked .looked ≡ 0
-  -- at most 8
-  pub eight : mapOf t o asked .looked ≤ 8
+  -- at most 11
+  pub eleven : mapOf t o asked .looked ≤ 11
   -- for n rows at most k, whenever n < 2 ^ k: for n at least 1 the least such k is 1 + the whole part of log2 n
   pub log : (k : ℕ) → t .count < 2 ^ k → mapOf t o asked .looked ≤ k
   -- a row that is found is one of the table's, and holds the offset

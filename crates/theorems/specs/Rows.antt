@@ -45,7 +45,7 @@ pub record OneRow (t : Table) (o : ℕ) : Type 0 where
 
 -- Rows follow each other from 0 to the size, one for each extent that the record counts.
 pub record InRows (r : Record) (t : Table) : Type 0 where
-  -- there are as many as the record counts, at most 128
+  -- there are as many as the record counts, at most `most`
   pub count : t .count ≡ length (counted r)
   pub most-rows : t .count ≤ most
   -- the first starts at 0, each other where the one before it ends, and the last ends at the size

@@ -62,11 +62,11 @@ refuses (Nothing ∷ ss) = refuses ss
 refuses (Set v ∷ ss) = refuses ss
 refuses (Extent x ∷ ss) = refuses ss
 
--- every line is sound: none says a refusal, and at most 128 say an extent
+-- every line is sound: none says a refusal, and at most `most` say an extent
 abbrev pub AllSound : List Said → Type 0
 AllSound ss = (refuses ss ≡ false) × (length (extentsIn ss) ≤ most)
 
--- a line that says so, after so many extents, is refused with the number n: 16 is for one extent more than 128
+-- a line that says so, after so many extents, is refused with the number n: 16 is for one extent more than `most`
 abbrev pub RefusedWith : ℕ → ℕ → Said → Type 0
 RefusedWith n count Nothing = ⊥
 RefusedWith n count (Set v) = ⊥

@@ -149,5 +149,5 @@ pub record Tiles (xs : List VmdkParsedExtent) (start long : ℕ) (w : Walk) : Ty
   -- (f) the stop is refusal 21 exactly if a no-access byte lies in the range, and otherwise Done: never More and never 22
   pub refused : w .stop ≡ Stopped 21 ↔ Meets xs start (start + long)
   pub otherwise : (w .stop ≡ Stopped 21) ⊎ (w .stop ≡ Done)
-  -- (g) rows looked at: at most 8 for each piece and 8 besides
-  pub few : w .looked ≤ 8 * length (w .pieces) + 8
+  -- (g) rows looked at: at most 11 for each piece and 11 besides
+  pub few : w .looked ≤ 11 * length (w .pieces) + 11

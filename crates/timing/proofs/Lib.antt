@@ -1,4 +1,5 @@
-pub mod Answers
 pub mod Turns
+pub mod Answers
 pub mod Tours
+pub mod Empties
 pub mod LentList

@@ -7,19 +7,17 @@ use mathlib.Core.Bool.{true, false}
 use mathlib.Core.List.{List, [], _∷_}
 use lib.Dec.{ltb}
 use lib.ListN.{length, take, drop, getD, replicate, length-append, length-replicate}
-use lib.Seq.{drop-cons, take-append-seam}
+use lib.Seq.{drop-cons}
 use borrow.Author.Needs.{needs}
 use borrow.Author.Tests.{ltb-true, ltb-false}
-use Rattle.lines.specs.Record.{most}
+use Rattle.lines.specs.Record.{most, over}
+use Rattle.lines.proofs.Overs.{over-first}
 use Rattle.tables.specs.declared.table.Table.{Table}
 use Rattle.tables.specs.declared.table.Piece.{Piece}
-use Rattle.maps.specs.Walk.{Walk, walkOf, listed}
-use Rattle.maps.specs.Walk.{noPiece}
-use Rattle.maps.specs.Listing.{noPieces}
+use Rattle.maps.specs.Walk.{Walk, walkOf, listed, noPiece, noPieces}
 use Rattle.timing.specs.declared.walk.Adding.{Adding}
 use Rattle.timing.specs.declared.walk.Tour.{Tour}
 use Rattle.timing.specs.Sum.{foldOf}
-use Rattle.timing.specs.Read.{tableIn}
 use Rattle.timing.specs.Walk.{pieceIn, piecesIn, afterWindow, walkSum}
 use Rattle.timing.specs.inside.Tours.{addingOf, addedOf, Short, setOut, touredOf, Ready}
 use Rattle.timing.proofs.Turns.{one-more, whole, none}
@@ -35,15 +33,15 @@ added-is k p e = rw e
 
 pub ruleset adds = (added-is, needs)
 
-pub blank-list : replicate 128 noPiece ≡ noPieces
+pub blank-list : replicate most noPiece ≡ noPieces
 unfolding noPieces
 blank-list = refl
 
 pub ruleset blanks = (blank-list, needs)
 
-pub blanks-long : length noPieces ≡ 128
+pub blanks-long : length noPieces ≡ most
 unfolding noPieces
-blanks-long = length-replicate 128 noPiece
+blanks-long = length-replicate most noPiece
 
 after-window : (at window : ℕ) {end : ℕ} → end ≡ (at + window) % 2 ^ 64 → end % 2147483648 ≡ afterWindow at window
 after-window at window e = omega (arith, e)
@@ -149,19 +147,13 @@ sum-done t k h e = ap (λ (n : ℕ). walkSum n t (k .window) (k .at) (k .sum)) (
 
 -- what a walk wrote stands at the front of the list
 pub written : (w : Walk) (ys : List Piece) → take (length (w .pieces)) (listed w ys) ≡ w .pieces
-unfolding listed
-written w ys = take-append-seam (w .pieces) (drop (length (w .pieces)) ys)
+written w ys = over-first (w .pieces) ys
 
 pub written-fits : (w : Walk) (ys : List Piece) → length (w .pieces) ≤ length (listed w ys)
-unfolding listed
+unfolding over
 written-fits w ys = omega (arith, length-append (w .pieces) (drop (length (w .pieces)) ys))
 
 -- adding as many pieces as a walk wrote adds just them
-pub tour-adds : (t : Table) (k : Tour) (ys : List Piece) → length ys ≡ 128
+pub tour-adds : (t : Table) (k : Tour) (ys : List Piece) → length ys ≡ most
     → piecesIn (k .sum) (take (length (walkOf t (length ys) (k .at) (k .window) .pieces)) (listed (walkOf t (length ys) (k .at) (k .window)) ys)) ≡ piecesIn (k .sum) (walkOf t most (k .at) (k .window) .pieces)
 tour-adds t k ys long = ap (piecesIn (k .sum)) (written (walkOf t (length ys) (k .at) (k .window)) ys) ∙ ap (λ (n : ℕ). piecesIn (k .sum) (walkOf t n (k .at) (k .window) .pieces)) long
-
-pub walk-built : (d : List ℕ) (window n : ℕ) {t : Table} {r : ℕ} → t ≡ tableIn d → r ≡ walkSum n t window 0 0 → r ≡ walkSum n (tableIn d) window 0 0
-walk-built d window n e f = f ∙ ap (λ (z : Table). walkSum n z window 0 0) e
-
-pub ruleset walks = (walk-built, needs)

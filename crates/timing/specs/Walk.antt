@@ -20,7 +20,7 @@ piecesIn s (p ∷ ps) = piecesIn (pieceIn s p) ps
 abbrev pub afterWindow : ℕ → ℕ → ℕ
 afterWindow at window = (at + window) % 2147483648
 
--- n walks from a position on, with 128 places, added to a sum
+-- n walks from a position on, with `most` places, added to a sum
 unfoldable pub walkSum : ℕ → Table → ℕ → ℕ → ℕ → ℕ
 walkSum zero t window at s = s
 walkSum (suc n) t window at s = walkSum n t window (afterWindow at window) (piecesIn s (walkOf t most at window .pieces))

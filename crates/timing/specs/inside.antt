@@ -1,3 +1,4 @@
 -- How the code goes: what only functions that are not exported promise. A reader who believes the rest of specs/ need not read these.
+pub mod Rounds
 pub mod Tallies
 pub mod Tours

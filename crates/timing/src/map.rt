@@ -1,11 +1,15 @@
 // Many mappings of one table, which is lent to each of them.
 use crate::sum::fold;
+use descriptor::empty;
+use descriptor::read;
 use maps::mapping;
+use tables::build;
 use tables::table::Mapping;
 use tables::table::ShallowMapping;
 use tables::table::Table;
 ghost use mathlib.Core.Path.{_≡_};
 ghost use Prim.Native.Nat.{_<_};
+ghost use Rattle.timing.specs.Read.{tableIn};
 ghost use Rattle.timing.specs.Map.{placeOf, nextOf, isAscending, mapSum};
 ghost use Rattle.timing.specs.inside.Tallies.{turnOf, firstOf, Steady};
 
@@ -96,9 +100,13 @@ fn many(t: &Table, ascending: u64, count: u64) -> u64
     sum_of(k)
 }
 
-// The sum over so many mappings of a table. By hand.
-pub(crate) fn map_in(t: Table, ascending: u64, count: u64) -> u64
-    ensures { λ r. ⌜ r ≡ mapSum (isAscending ascending) count t 0 0 ⌝ }
+// The sum over so many mappings of the table of a descriptor. By hand.
+pub(crate) fn map_in(d: &[u8], ascending: u64, count: u64) -> u64
+    ensures { λ r. ⌜ r ≡ mapSum (isAscending ascending) count (tableIn (now (d .entry))) 0 0 ⌝ }
 {
-    many(&t, ascending, count)
+    let mut record = empty::no_record();
+    let mut table = build::no_table();
+    let read = read::parse_descriptor_file(d, &mut record);
+    let built = build::build(&record, &mut table);
+    many(&table, ascending, count)
 }

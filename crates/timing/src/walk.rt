@@ -1,13 +1,18 @@
 // Many walks of one table, into one list of pieces; both are lent.
 use crate::sum::fold;
+use descriptor::empty;
+use descriptor::read;
+use lines::record::MOST;
 use maps::walk;
+use tables::build;
 use tables::table::Piece;
 use tables::table::PieceSource;
 use tables::table::Table;
 ghost use mathlib.Core.Path.{_≡_};
 ghost use Prim.Native.Nat.{_<_, _≤_};
 ghost use lib.ListN.{length, take};
-ghost use Rattle.maps.specs.Listing.{noPieces};
+ghost use Rattle.maps.specs.Walk.{noPieces};
+ghost use Rattle.timing.specs.Read.{tableIn};
 ghost use Rattle.timing.specs.Walk.{pieceIn, piecesIn, walkSum};
 ghost use Rattle.timing.specs.inside.Tours.{addedOf, addingOf, Short, touredOf, setOut, Ready};
 
@@ -85,8 +90,8 @@ pub(crate) fn add_pieces(list: &mut [Piece], count: usize, sum: u64) -> u64
     added_sum(k)
 }
 
-// 128 pieces of nothing.
-fn blanks() -> [Piece; 128]
+// Pieces of nothing.
+fn blanks() -> [Piece; MOST]
     ensures { λ r. ⌜ r ≡ noPieces ⌝ }
 {
     let source = PieceSource::Zero;
@@ -98,7 +103,7 @@ fn blanks() -> [Piece; 128]
         file_offset: 0,
         writable: false,
     };
-    [none; 128]
+    [none; MOST]
 }
 
 // Before the first walk: at the disk's start.
@@ -150,9 +155,13 @@ fn tours(t: &Table, window: u64, count: u64) -> u64
     tour_sum(k)
 }
 
-// The sum over so many walks of a table. By hand.
-pub(crate) fn walk_in(t: Table, window: u64, count: u64) -> u64
-    ensures { λ r. ⌜ r ≡ walkSum count t window 0 0 ⌝ }
+// The sum over so many walks of the table of a descriptor. By hand.
+pub(crate) fn walk_in(d: &[u8], window: u64, count: u64) -> u64
+    ensures { λ r. ⌜ r ≡ walkSum count (tableIn (now (d .entry))) window 0 0 ⌝ }
 {
-    tours(&t, window, count)
+    let mut record = empty::no_record();
+    let mut table = build::no_table();
+    let read = read::parse_descriptor_file(d, &mut record);
+    let built = build::build(&record, &mut table);
+    tours(&table, window, count)
 }

@@ -58,11 +58,11 @@ fn usage() {
     io::write_all(2, b"       vmdkmap map OFFSET LENGTH < DESCRIPTOR\n");
     io::write_all(
         2,
-        b"       vmdkmap walk OFFSET LENGTH PLACES < DESCRIPTOR    (PLACES is 0 to 128)\n",
+        b"       vmdkmap walk OFFSET LENGTH PLACES < DESCRIPTOR    (PLACES is 0 to 1024)\n",
     );
     io::write_all(2, b"as in: vmdkmap < reel.vmdk\n");
     io::write_all(2, b"       vmdkmap map 2047 100 < reel.vmdk\n");
-    io::write_all(2, b"       vmdkmap walk 0 4096 128 < reel.vmdk\n");
+    io::write_all(2, b"       vmdkmap walk 0 4096 1024 < reel.vmdk\n");
 }
 
 // Whether the input ends after n bytes: a read that failed has ended nothing, and fails again.

@@ -6,6 +6,7 @@ use lib.ListN.{length}
 use Rattle.text.specs.Ascii.{ascii}
 use Rattle.maps.specs.Walk.{Walk, walkOf, walked}
 use Rattle.tables.specs.declared.table.Row.{Row}
+use Rattle.tables.specs.declared.table.Source.{Source}
 use Rattle.tables.specs.declared.table.PieceSource.{PieceSource}
 use Rattle.tables.specs.declared.table.PieceSource.the-variants.{Zero, Raw}
 use Rattle.tables.specs.declared.table.Piece.{Piece}
@@ -21,13 +22,17 @@ use Rattle.phrases.specs.declared.opening.Opened.{Opened}
 abbrev pub rawWords : ℕ → ℕ → Bool → List ℕ → List (List ℕ)
 rawWords o i w name = ascii "raw" ∷ decimalOf o ∷ ascii "row" ∷ decimalOf i ∷ modeWord w ∷ name ∷ []
 
-abbrev pub pieceWords : List ℕ → List Row → Piece → PieceSource → List (List ℕ)
-pieceWords d rows p Raw = rawWords (p .«file_offset») (p .row) (p .writable) (nameOf d (sourceAt rows (p .row)))
-pieceWords d rows p Zero = ascii "zero row" ∷ decimalOf (p .row) ∷ []
+abbrev pub pieceWords : List ℕ → Source → Piece → PieceSource → List (List ℕ)
+pieceWords d s p Raw = rawWords (p .«file_offset») (p .row) (p .writable) (nameOf d s)
+pieceWords d s p Zero = ascii "zero row" ∷ decimalOf (p .row) ∷ []
 
--- a piece: where it starts on the disk, how many bytes it has, and where they come from
+-- a piece of a source: where it starts on the disk, how many bytes it has, and where they come from
+unfoldable pub pieceFrom : List ℕ → Source → Piece → List ℕ
+pieceFrom d s p = line (decimalOf (p .start) ∷ decimalOf (p .run) ∷ pieceWords d s p (p .source))
+
+-- a piece, by its number, which is not written: its source is its row's
 unfoldable pub pieceLine : List ℕ → List Row → ℕ → Piece → List ℕ
-pieceLine d rows i p = line (decimalOf (p .start) ∷ decimalOf (p .run) ∷ pieceWords d rows p (p .source))
+pieceLine d rows i p = pieceFrom d (sourceAt rows (p .row)) p
 
 -- why a walk stopped
 abbrev pub stopText : Stop → List ℕ

@@ -2,16 +2,16 @@
 ghost use Rattle.maps.specs.Walk.{walkOf};
 ghost use Rattle.puts.specs.Put.{Put};
 ghost use Rattle.phrases.specs.Line.{line, linesTo, nameOf};
-ghost use Rattle.walk_lines.specs.Walk.{rawWords, pieceWords, pieceLine, stopText, stopLine, walkLines, walkLinesOf};
+ghost use Rattle.walk_lines.specs.Walk.{rawWords, pieceWords, pieceFrom, pieceLine, stopText, stopLine, walkLines, walkLinesOf};
+use by_value::listed;
+use lines::record::MOST;
 use lines::record::Verdict;
-use maps::by_value::listed;
 use phrases::line::field;
 use phrases::line::last_field;
 use phrases::line::last_source_name;
 use phrases::line::mode;
 use phrases::line::number;
 use phrases::line::refused_line;
-use phrases::line::row_source;
 use phrases::line::word;
 use phrases::opening::open;
 use tables::table::Piece;
@@ -40,35 +40,32 @@ fn raw_piece(
     last_source_name(d, s, out, at)
 }
 
-// Puts where a piece's bytes come from, to the line's end.
-fn piece_source(d: &[u8], rows: [Row; 128], p: Piece, out: &mut [u8], at: usize) -> usize
-    ensures { λ r. ⌜ Put (now (out .entry)) at (line (pieceWords (now (d .entry)) rows p (p .source))) r (now (out .exit)) ⌝ }
+// Puts where a piece's bytes come from, to the line's end; s is its row's source.
+fn piece_source(d: &[u8], s: Source, p: Piece, out: &mut [u8], at: usize) -> usize
+    ensures { λ r. ⌜ Put (now (out .entry)) at (line (pieceWords (now (d .entry)) s p (p .source))) r (now (out .exit)) ⌝ }
 {
-    let row = p.row;
+    let row = p.row as u64;
     let source = p.source;
     match source {
-        PieceSource::Zero => last_field(out, at, b"zero row", row as u64),
-        PieceSource::Raw => {
-            let s = row_source(rows, row);
-            raw_piece(d, p.file_offset, row as u64, p.writable, s, out, at)
-        }
+        PieceSource::Zero => last_field(out, at, b"zero row", row),
+        PieceSource::Raw => raw_piece(d, p.file_offset, row, p.writable, s, out, at),
     }
 }
 
-// Puts a piece's line. (Its number is not written.)
-fn piece_line(d: &[u8], rows: [Row; 128], i: usize, p: Piece, out: &mut [u8], at: usize) -> usize
-    ensures { λ r. ⌜ Put (now (out .entry)) at (pieceLine (now (d .entry)) rows i p) r (now (out .exit)) ⌝ }
+// Puts the line of a piece of a source.
+fn piece_line(d: &[u8], s: Source, p: Piece, out: &mut [u8], at: usize) -> usize
+    ensures { λ r. ⌜ Put (now (out .entry)) at (pieceFrom (now (d .entry)) s p) r (now (out .exit)) ⌝ }
 {
     let at = number(out, at, p.start);
     let at = number(out, at, p.run);
-    piece_source(d, rows, p, out, at)
+    piece_source(d, s, p, out, at)
 }
 
-// Puts the lines of the first pieces, as many as are counted.
+// Puts the lines of the first pieces, as many as are counted. A piece of no row has no source: past the rows there is no access.
 fn piece_lines(
     d: &[u8],
-    rows: [Row; 128],
-    pieces: [Piece; 128],
+    rows: [Row; MOST],
+    pieces: [Piece; MOST],
     count: usize,
     out: &mut [u8],
     at: usize,
@@ -77,13 +74,21 @@ fn piece_lines(
 {
     let mut next = at;
     let mut i = 0;
-    while i < 128 {
+    while i < MOST {
         if count <= i {
             return next;
         }
         let p = pieces[i];
-        next = piece_line(d, rows, i, p, out, next);
+        let row = p.row;
         i += 1;
+        if row < MOST {
+            let r = rows[row];
+            let s = r.source;
+            next = piece_line(d, s, p, out, next);
+            continue;
+        }
+        let none = Source::NoAccess;
+        next = piece_line(d, none, p, out, next);
     }
     next
 }

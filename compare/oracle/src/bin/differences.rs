@@ -1,17 +1,18 @@
 //! Shows where the Rust and document 01 differ by design, each on a smallest input, by running
-//! the Rust: the limit of 128 extents, a second building after a refused one, and which of several
+//! the Rust: the limit of 1,024 extents, a second building after a refused one, and which of several
 //! overlapping rows of a hand-made table answers.
 
 use oracle::storage::Store;
-use oracle::vmdk::opened::{build_twice, by_hand, Image, Mapping};
+use oracle::vmdk::opened::{build_twice, by_hand, Image, Mapping, LIMIT};
 use oracle::vmdk::Vmdk;
 use std::sync::Arc;
 
 fn main() {
-    println!("129 extents `RW 0 ZERO` after `version=1`:");
-    let text = format!("version=1{}", "\nRW 0 ZERO".repeat(129));
+    println!("{} extents `RW 0 ZERO` after `version=1`:", LIMIT + 1);
+    let text = format!("version=1{}", "\nRW 0 ZERO".repeat(LIMIT + 1));
     let opened = Vmdk::<Store>::open_image(descriptor(&text), false);
-    println!("  document: 16, line 130; the Rust: {}", if opened.is_ok() { "reads" } else { "refuses" });
+    let reads = if opened.is_ok() { "reads" } else { "refuses" };
+    println!("  document: 16, line {}; the Rust: {reads}", LIMIT + 2);
 
     let text = "version=1\nRW 1 ZERO\nRW 1 FLAT \"\" 36028797018963968";
     println!("built a second time: {text:?}");

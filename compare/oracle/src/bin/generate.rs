@@ -3,6 +3,7 @@
 //! - `generate drawn SEED COUNT`: so many drawn descriptors with drawn queries
 //! - `generate lines|names|keys|geometry`: every row of some tokens
 //! - `generate bytes`, `generate characters`: every byte pair and edge, every character
+//! - `generate counts`: every number of extents
 //! - `generate long`: inputs from 65,535 to 2,097,154 bytes
 //! - `generate sample`: the fixed list
 
@@ -24,6 +25,7 @@ fn main() -> io::Result<()> {
         }
         ["bytes"] => exhaustive::write_bytes(&mut out)?,
         ["characters"] => exhaustive::write_characters(&mut out)?,
+        ["counts"] => exhaustive::write_counts(&mut out)?,
         ["sample"] => sample::write(&mut out)?,
         ["long"] => exhaustive::write_long(&mut out)?,
         [name] => {
@@ -39,6 +41,6 @@ fn main() -> io::Result<()> {
 /// What to say to bad arguments.
 fn usage() -> io::Error {
     io::Error::other(
-        "generate drawn SEED COUNT | lines | names | keys | geometry | bytes | characters | long | sample",
+        "generate drawn SEED COUNT | lines | names | keys | geometry | bytes | characters | counts | long | sample",
     )
 }

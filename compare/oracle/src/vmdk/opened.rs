@@ -1,13 +1,13 @@
 //! Opens what is private in imago's text, and says its errors in document 01's numbers.
 //!
 //! The answers are the Rust's own. Added around it are only: the number of an error's text, the
-//! limit of 128 extents (16), and the extent's number of 18 to 20.
+//! limit of 1,024 extents (16), and the extent's number of 18 to 20.
 
 use super::*;
 use crate::storage::Store;
 
-/// The most extents that document 01 takes.
-pub const LIMIT: usize = 128;
+/// The most extents that are taken, and the most pieces of a walk.
+pub const LIMIT: usize = 1024;
 
 /// Document 01's refusal: its number, and the line or the extent.
 #[derive(Clone, Copy, Debug, PartialEq)]

@@ -27,10 +27,14 @@ abbrev pub upon : ℕ → Search → Search
 upon k (found i n) = found i (k + n)
 upon k (nowhere n) = nowhere (k + n)
 
+-- how many ends a search can have after so many looks: at one of fewer than so many rows, or nowhere
+abbrev pub ends : ℕ
+ends = 4096
+
 -- a search's end as one number
 abbrev pub packed : Search → ℕ
-packed (found i n) = n * 4096 + (i + 1)
-packed (nowhere n) = n * 4096
+packed (found i n) = n * ends + (i + 1)
+packed (nowhere n) = n * ends
 
 -- the row that a search ended at; where it ended at none, what was there
 abbrev pub keptRow : List Row → Search → Row → Row
@@ -44,7 +48,7 @@ hitOf (nowhere n) = record { found = false; row = 0; looked = n }
 
 -- the search's end that a number stands for
 unfoldable pub unpackOf : ℕ → Hit
-unpackOf code = pick (ltb 0 (code % 4096)) (hitOf (found (code % 4096 - 1) (code / 4096))) (hitOf (nowhere (code / 4096)))
+unpackOf code = pick (ltb 0 (code % ends)) (hitOf (found (code % ends - 1) (code / ends))) (hitOf (nowhere (code / ends)))
 
 -- the window lo up to hi after a look at row i, before which k rows were looked at; the answer if row i holds the offset
 abbrev pub window : Bool → ℕ → ℕ → ℕ → ℕ → Next

@@ -75,4 +75,4 @@ Meant s g = (g .run ≤ s .left) × ((s .pos + g .run < 2 ^ 64) × (s .looked + 
 
 -- a step can be made: the table's size and the rows looked at, with those of one mapping more, are numbers of 64 bits
 abbrev pub Ready : Table → Stand → Type 0
-Ready t s = (t .size .0 < 2 ^ 64) × (s .looked + 128 < 2 ^ 64)
+Ready t s = (t .size .0 < 2 ^ 64) × (s .looked + most < 2 ^ 64)

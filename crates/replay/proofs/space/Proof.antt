@@ -10,4 +10,4 @@ zeros-long : (n : ℕ) → n ≡ length {A = ℕ} (replicate n 0)
 zeros-long n = sym (length-replicate n 0)
 
 pub space-spec : {M : Type 1} → statement M
-space-spec = tie.close (tie.spec (λ c. zeros-long 2101745))
+space-spec = tie.close (tie.spec (λ c. zeros-long 2102000))

@@ -1,6 +1,7 @@
--- `row_lines` meets its contract. The invariant: the lines of the first i rows are put, and i is at most the count. A turn puts one more; past 128
+-- `row_lines` meets its contract. The invariant: the lines of the first i rows are put, and i is at most the count. A turn puts one more; past most
 -- rows there are none, whatever the count. Assumes nothing.
 use Prim.Native.Nat.{_-_, _≤_}
+use Rattle.lines.specs.Record.{most}
 use Rattle.puts.specs.Put.{Put}
 use Rattle.phrases.specs.Line.{linesTo}
 use Rattle.disk_lines.specs.Report.{rowLine}
@@ -12,7 +13,7 @@ abbrev Inv-loop : tie.InvT-loop
 Inv-loop d count out₀ at rows next₀ i₀ out next i = Put out₀ at (linesTo (rowLine d) rows i) next out × (i ≤ count)
 
 abbrev μ-loop : tie.MeasureT-loop
-μ-loop d count out₀ at rows next₀ i₀ out next i = 128 - i
+μ-loop d count out₀ at rows next₀ i₀ out next i = most - i
 
 pub row-lines-spec : {M : Type 1} → statement M
 row-lines-spec =

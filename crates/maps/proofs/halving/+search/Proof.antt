@@ -42,6 +42,7 @@ use denote.Triple.Table.{cited}
 use denote.Triple.Walked.{says, needs, Stays, stay-none, stay-none-ref, gave-ref, walkOf, goes-none, goes-none-ref, goes-gave-ref, ends-at, walked-at, walk-meets-at}
 use denote.Exit.{yes}
 use denote.Signature.{plain}
+use Rattle.lines.specs.Record.{most}
 use Rattle.tables.specs.Build.{noRow}
 use Rattle.maps.specs.Map.{nowhere, middle as middleOf}
 use Rattle.maps.specs.inside.Halving.{packed, nextOf}
@@ -103,7 +104,7 @@ module _ {M : Type 1} (𝓤 : URA M) (H : Heap 𝓤) (A : Atoms 𝓤) (W : Given
 
 -- κ₀ is the table's lifetime, and κ the row's
 module _ {M : Type 1} (𝓤 : URA M) (H : Heap 𝓤) (A : Atoms 𝓤) (W : Given 𝓤 H A) (mem : Memory → SProp 𝓤) (run : Routine → Fun 𝓤) (κ₀ κ : Lft) (q₀ q : Share) (b₀ o₀ : ℕ) (γ₀ : GName) (t : Table) (b o : ℕ) (γ : GName) (was : Row) (lo hi offset looked : ℕ)
-    (lo-fits : lo < 2 ^ 64) (hi-fits : hi < 2 ^ 64) (offset-fits : offset < 2 ^ 64) (looked-fits : looked < 2 ^ 64) (asked : (hi ≤ 128) × (looked + (hi - lo) ≤ 128)) where
+    (lo-fits : lo < 2 ^ 64) (hi-fits : hi < 2 ^ 64) (offset-fits : offset < 2 ^ 64) (looked-fits : looked < 2 ^ 64) (asked : (hi ≤ most) × (looked + (hi - lo) ≤ most)) where
   abbrev x : RefT Table
   x = record { ptr = (b₀, o₀); name = γ₀; now = t }
 
@@ -169,36 +170,36 @@ module _ {M : Type 1} (𝓤 : URA M) (H : Heap 𝓤) (A : Atoms 𝓤) (W : Given
     abbrev to-middle : Middle 𝓤 H A mem run .Ghost
     to-middle = ((tt, tt, tt, (lo, (hi, tt)), (vint w64 lo ∷ [], (vint w64 hi ∷ [], tt))), tt)
 
-    goes-middle : (lo < hi) × (hi ≤ 128) → ent 𝓤 (emp 𝓤) (Middle 𝓤 H A mem run .pre to-middle)
-    goes-middle l = asks 𝓤 H A W middle.ended (middle.clauses 𝓤 H A mem run) to-middle (id⊢ 𝓤 _) (uint-makes 𝓤 H A W w64, (uint-makes 𝓤 H A W w64, tt)) ((refl, lo-fits), ((refl, hi-fits), tt)) (guardI 𝓤 ((lo < hi) × (hi ≤ 128)) (emp 𝓤) l)
+    goes-middle : (lo < hi) × (hi ≤ most) → ent 𝓤 (emp 𝓤) (Middle 𝓤 H A mem run .pre to-middle)
+    goes-middle l = asks 𝓤 H A W middle.ended (middle.clauses 𝓤 H A mem run) to-middle (id⊢ 𝓤 _) (uint-makes 𝓤 H A W w64, (uint-makes 𝓤 H A W w64, tt)) ((refl, lo-fits), ((refl, hi-fits), tt)) (guardI 𝓤 ((lo < hi) × (hi ≤ most)) (emp 𝓤) l)
 
     abbrev to-row : RowAt 𝓤 H A mem run .Ghost
     to-row = (((κ₀, tt), (q₀, tt), tt, (x, (mid, tt)), (p₀ ∷ [], (vint w64 mid ∷ [], tt))), tt)
 
-    goes-row : mid < 128 → ent 𝓤 (sep 𝓤 (A .lft κ₀ q₀) (sem 𝓤 H A Own)) (RowAt 𝓤 H A mem run .pre to-row)
+    goes-row : mid < most → ent 𝓤 (sep 𝓤 (A .lft κ₀ q₀) (sem 𝓤 H A Own)) (RowAt 𝓤 H A mem run .pre to-row)
     goes-row l =
         asks-held 𝓤 H A W row-at.ended (row-at.clauses 𝓤 H A mem run) to-row (A .lft κ₀ q₀) (sem 𝓤 H A Own) (alive-one 𝓤 H A W (A .lft κ₀ q₀))
-        (own-first 𝓤 H A W (ShrRef (named 0) κ₀ TT.the-row) (usize ∷ []) x (mid, tt) (p₀ ∷ []) (vint w64 mid ∷ [], tt) (uint-makes 𝓤 H A W w64, tt) ((refl, omega arith), tt)) (guardI 𝓤 (mid < 128) (emp 𝓤) l)
+        (own-first 𝓤 H A W (ShrRef (named 0) κ₀ TT.the-row) (usize ∷ []) x (mid, tt) (p₀ ∷ []) (vint w64 mid ∷ [], tt) (uint-makes 𝓤 H A W w64, tt) ((refl, omega arith), tt)) (guardI 𝓤 (mid < most) (emp 𝓤) l)
 
     abbrev to-decide : Decide 𝓤 H A mem run .Ghost
     to-decide = ((tt, tt, tt, (row, (lo, (mid, (hi, (offset, (looked, tt)))))), (vr ∷ [], (vint w64 lo ∷ [], (vint w64 mid ∷ [], (vint w64 hi ∷ [], (vint w64 offset ∷ [], (vint w64 looked ∷ [], tt))))))), tt)
 
-    goes-decide : Is TR.the-row row (vr ∷ []) → (mid < 128) × (looked < 128) → mid < 2 ^ 64 → ent 𝓤 (emp 𝓤) (Decide 𝓤 H A mem run .pre to-decide)
+    goes-decide : Is TR.the-row row (vr ∷ []) → (mid < most) × (looked < most) → mid < 2 ^ 64 → ent 𝓤 (emp 𝓤) (Decide 𝓤 H A mem run .pre to-decide)
     goes-decide is l m =
         asks 𝓤 H A W decide.ended (decide.clauses 𝓤 H A mem run) to-decide (id⊢ 𝓤 _)
         (LL.makes TR.the-type TR′.the-plain 𝓤 H A, (uint-makes 𝓤 H A W w64, (uint-makes 𝓤 H A W w64, (uint-makes 𝓤 H A W w64, (uint-makes 𝓤 H A W w64, (uint-makes 𝓤 H A W w64, tt))))))
-        (is, ((refl, lo-fits), ((refl, m), ((refl, hi-fits), ((refl, offset-fits), ((refl, looked-fits), tt)))))) (guardI 𝓤 ((mid < 128) × (looked < 128)) (emp 𝓤) l)
+        (is, ((refl, lo-fits), ((refl, m), ((refl, hi-fits), ((refl, offset-fits), ((refl, looked-fits), tt)))))) (guardI 𝓤 ((mid < most) × (looked < most)) (emp 𝓤) l)
 
     abbrev to-miss : NoHit 𝓤 H A mem run .Ghost
     to-miss = ((tt, tt, tt, (looked, tt), (vint w64 looked ∷ [], tt)), tt)
 
-    goes-miss : looked ≤ 128 → ent 𝓤 (emp 𝓤) (NoHit 𝓤 H A mem run .pre to-miss)
-    goes-miss l = asks 𝓤 H A W no-hit.ended (no-hit.clauses 𝓤 H A mem run) to-miss (id⊢ 𝓤 _) (uint-makes 𝓤 H A W w64, tt) ((refl, looked-fits), tt) (guardI 𝓤 (looked ≤ 128) (emp 𝓤) l)
+    goes-miss : looked ≤ most → ent 𝓤 (emp 𝓤) (NoHit 𝓤 H A mem run .pre to-miss)
+    goes-miss l = asks 𝓤 H A W no-hit.ended (no-hit.clauses 𝓤 H A mem run) to-miss (id⊢ 𝓤 _) (uint-makes 𝓤 H A W w64, tt) ((refl, looked-fits), tt) (guardI 𝓤 (looked ≤ most) (emp 𝓤) l)
 
     abbrev to-self : Self 𝓤 H A W mem run .Ghost
     to-self = to (n .lo) (n .hi) (n .looked)
 
-    goes-self : Is TN.the-row n (vn ∷ []) → (n .hi ≤ 128) × (n .looked + (n .hi - n .lo) ≤ 128) → ent 𝓤 (sep 𝓤 (A .lft κ₀ q₀) (sep 𝓤 (sem 𝓤 H A Own) (sep 𝓤 (A .lft κ q) (sem 𝓤 H A Has)))) (Self 𝓤 H A W mem run .pre to-self)
+    goes-self : Is TN.the-row n (vn ∷ []) → (n .hi ≤ most) × (n .looked + (n .hi - n .lo) ≤ most) → ent 𝓤 (sep 𝓤 (A .lft κ₀ q₀) (sep 𝓤 (sem 𝓤 H A Own) (sep 𝓤 (A .lft κ q) (sem 𝓤 H A Has)))) (Self 𝓤 H A W mem run .pre to-self)
     goes-self is l =
         let owed = LL.owed TN.the-type TN′.the-laws n _ is in
         goes 𝓤 H A W mem run κ₀ κ q₀ q b₀ o₀ γ₀ t b o γ was (n .lo) (n .hi) offset (n .looked) (owed .1 .0 .1) (owed .1 .1 .0 .1) offset-fits (owed .1 .1 .1 .0 .1) l
@@ -239,7 +240,7 @@ module _ {M : Type 1} (𝓤 : URA M) (H : Heap 𝓤) (A : Atoms 𝓤) (W : Given
           first ! $ branches ! (load ! (from ! (stop !)) (look ! 8 refl)) (λ z.
           let less : lo < hi = ltb-true lo hi (T-true (ltb lo hi) z) in
           let m = middle-in lo hi less in
-          let inside : (mid < 128) × (looked < 128) = (omega (arith, m .1, asked .0), omega (arith, asked .1)) in
+          let inside : (mid < most) × (looked < most) = (omega (arith, m .1, asked .0), omega (arith, asked .1)) in
           let narrow = next-narrow row lo mid hi offset looked (m .0) (m .1) in
           -- `middle`
           use0 W (raw (Middle 𝓤 H A mem run .pre to-middle)) (goes-middle (less, asked .0)) $
@@ -324,7 +325,7 @@ module _ {M : Type 1} (𝓤 : URA M) (H : Heap 𝓤) (A : Atoms 𝓤) (W : Given
       walk-meets-at 𝓤 H A self.ended stayed W (goes-none-ref 𝓤 H A W 2 (0 ∷ []) tt (plain (λ _. TT.the-row)) yes, (goes-none 𝓤 H A W 2 (λ _. usize) yes (λ κs x f. refl), (goes-none 𝓤 H A W 2 (λ _. usize) yes (λ κs x f. refl), (goes-none 𝓤 H A W 2 (λ _. u64) yes (λ κs x f. refl), (goes-none 𝓤 H A W 2 (λ _. usize) yes (λ κs x f. refl), (goes-gave-ref 𝓤 H A W 2 1 tt (plain (λ _. TR.the-row)), tt)))))) (self.clauses 𝓤 H A mem run)
       (WpFn 𝓤 H (𝓣 .C) (𝓣 .Λ) code.search-function) (WpFn-mono 𝓤 H (W .laws) 𝓣 code.search-function) y
       (walked-at 𝓤 H A self.ended stayed (self.clauses 𝓤 H A mem run) (WpFn 𝓤 H (𝓣 .C) (𝓣 .Λ) code.search-function) y (ptr-vals, (uint-vals w64, (uint-vals w64, (uint-vals w64, (uint-vals w64, (ptr-vals, tt)))))) (shr-tells (named 0) (y .0 .0 .0) TT.the-row, (uint-tells w64, (uint-tells w64, (uint-tells w64, (uint-tells w64, (mut-tells (named 1) (y .0 .0 .1 .0) TR.the-row, tt))))))
-      (λ are. needs 𝓤 ((y .0 .3 .1 .1 .0 ≤ 128) × (y .0 .3 .1 .1 .1 .1 .0 + (y .0 .3 .1 .1 .0 - y .0 .3 .1 .0) ≤ 128)) _ (λ asked.
+      (λ are. needs 𝓤 ((y .0 .3 .1 .1 .0 ≤ most) × (y .0 .3 .1 .1 .1 .1 .0 + (y .0 .3 .1 .1 .0 - y .0 .3 .1 .0) ≤ most)) _ (λ asked.
       walk 𝓤 H A W mem run (y .0 .0 .0) (y .0 .0 .1 .0) (y .0 .1 .0) (y .0 .1 .1 .0) (y .0 .3 .0 .ptr .0) (y .0 .3 .0 .ptr .1) (y .0 .3 .0 .name) (y .0 .3 .0 .now) (y .0 .3 .1 .1 .1 .1 .1 .0 .ptr .0) (y .0 .3 .1 .1 .1 .1 .1 .0 .ptr .1) (y .0 .3 .1 .1 .1 .1 .1 .0 .name) (y .0 .3 .1 .1 .1 .1 .1 .0 .now) (y .0 .3 .1 .0) (y .0 .3 .1 .1 .0) (y .0 .3 .1 .1 .1 .0) (y .0 .3 .1 .1 .1 .1 .0) (are .1 .0 .1) (are .1 .1 .0 .1) (are .1 .1 .1 .0 .1) (are .1 .1 .1 .1 .0 .1) asked
       (𝓣 .C) (𝓣 .Λ) (fmOf 𝓤 H (W .laws) 𝓣) known-middle known-row known-decide known-miss (λ z less. below (μ 𝓤 H A W mem run z) (subst (λ (j : ℕ). μ 𝓤 H A W mem run z < j) e less) z refl)))))
 

@@ -37,6 +37,7 @@ use denote.Triple.Table.{entered}
 use denote.Triple.Walked.{says, needs, Stays, stay-none, stay-none-ref, walkOf, goes-none, goes-none-ref, Walks, ends-at, walked, walk-meets}
 use denote.Exit.{yes}
 use denote.Signature.{plain}
+use Rattle.lines.specs.Record.{most}
 use Rattle.tables.specs.Build.{noRow}
 use Rattle.tables.specs.declared.table.Row.{Row}
 use Rattle.tables.specs.declared.table.Table.{Table}
@@ -98,7 +99,7 @@ module _ {M : Type 1} (𝓤 : URA M) (H : Heap 𝓤) (A : Atoms 𝓤) (W : Given
       owned ! R.the-row (Is R.the-row) (LL.makes R.the-type R′.the-plain 𝓤 H A) elem _ g $ move ! (1 ∷ 0 ∷ []) $ done !
 
   module _ (C : Calls 𝓤 H) (Λ : Loops 𝓤 H) where
-    walk : i < 128 → ent 𝓤 (onEntry 𝓤 H A row′.signature (κ, tt) (q, tt) a vals) (WpFn 𝓤 H C Λ code.function (vptr b o ∷ vint w64 i ∷ []) Post)
+    walk : i < most → ent 𝓤 (onEntry 𝓤 H A row′.signature (κ, tt) (q, tt) a vals) (WpFn 𝓤 H C Λ code.function (vptr b o ∷ vint w64 i ∷ []) Post)
     walk within =
         let bytes : i * 48 < 2 ^ 64 = omega arith in
         qed W ((‵ (flft κ q) ⊛ ‵ ftrue) ∷ ‵ (owns (ShrRef (named 0) κ T.the-row ∷ usize ∷ []) a vals) ∷ []) ∵ enter ! C Λ code.function (vptr b o ∷ vint w64 i ∷ []) _ $
@@ -115,8 +116,8 @@ module _ {M : Type 1} (𝓤 : URA M) (H : Heap 𝓤) (A : Atoms 𝓤) (W : Given
         spelt ! T.the-row (Is T.the-row) (shows 𝓤 H A T.the-row) (LL.vals T.the-type T′.the-laws) (LL.tells T.the-type T′.the-laws) q′ h vs b o $ move ! (1 ∷ []) $ peeks ! T.the-row (Is T.the-row) (shows 𝓤 H A T.the-row) h (mach ∷ []) (λ g. move ! (1 ∷ 0 ∷ []) $
         -- [the table's cell, a share; what it owns; what shuts; the fractured borrow; true; what t owns; i's; _6; …; _5; …; _4; …; _3; …; _2; …; _1; …; _0; …]
         let rows = LL.owed T.the-type T′.the-laws h (mach ∷ []) g .1 .1 .0 in
-        let long : length (h .rows) ≡ 128 = sym (length-map (h .rows) (R.the-type .to)) ∙ rows .1 .0 .1 in
-        let long′ : length (map tuple (map (R.the-type .to) (h .rows))) ≡ 128 = long-at F tuple (R′.the-field-laws .tells) (R.the-type .to) (h .rows) 128 (rows .1 .0 .1) in
+        let long : length (h .rows) ≡ most = sym (length-map (h .rows) (R.the-type .to)) ∙ rows .1 .0 .1 in
+        let long′ : length (map tuple (map (R.the-type .to) (h .rows))) ≡ most = long-at F tuple (R′.the-field-laws .tells) (R.the-type .to) (h .rows) most (rows .1 .0 .1) in
         let path : getD (map tuple (map (R.the-type .to) (h .rows))) i (one noRow) ≡ one elem = val-at F tuple (R′.the-field-laws .tells) (R.the-type .to) (h .rows) i noRow in
         let is : Is R.the-row elem (one elem ∷ []) = each-at F tuple (R′.the-field-laws .tells) (R.the-type .to) (h .rows) (rows .0) (rows .1 .1) i noRow (subst (λ (n : ℕ). i < n) (sym long) within) in
         let typed = LL.lawful R.the-type R′.the-laws 𝓤 H A W .typed elem _ is .0 in
@@ -132,7 +133,7 @@ module _ {M : Type 1} (𝓤 : URA M) (H : Heap 𝓤) (A : Atoms 𝓤) (W : Given
 module _ {M : Type 1} (𝓤 : URA M) (H : Heap 𝓤) (A : Atoms 𝓤) (W : Given 𝓤 H A) (mem : Memory → SProp 𝓤) (run : Routine → Fun 𝓤) (𝓣 : Tables 𝓤 H) where
   walks : Walks 𝓤 H A row′.ended stayed (WpFn 𝓤 H (𝓣 .C) (𝓣 .Λ) code.function) (row′.clauses 𝓤 H A mem run)
   walks = walked 𝓤 H A row′.ended stayed (row′.clauses 𝓤 H A mem run) (WpFn 𝓤 H (𝓣 .C) (𝓣 .Λ) code.function) (λ κs. (ptr-vals, (uint-vals w64, tt))) (λ κs. (shr-tells (named 0) (κs .0) T.the-row, (uint-tells w64, tt)))
-      (λ κs qs bounds a g are. needs 𝓤 (a .1 .0 < 128) _ (λ within.
+      (λ κs qs bounds a g are. needs 𝓤 (a .1 .0 < most) _ (λ within.
       walk 𝓤 H A W mem run (κs .0) (qs .0) (a .0 .ptr .0) (a .0 .ptr .1) (a .0 .name) (a .0 .now) (a .1 .0) (are .1 .0 .1) (𝓣 .C) (𝓣 .Λ) within))
 
   meets : Meets 𝓤 H A row′.signature (WpFn 𝓤 H (𝓣 .C) (𝓣 .Λ) code.function) (row′.spec 𝓤 H A mem run)

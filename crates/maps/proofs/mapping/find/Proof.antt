@@ -37,6 +37,7 @@ use denote.Triple.Table.{entered, cited}
 use denote.Triple.Walked.{says, Stays, stay-none, stay-none-ref, walkOf, goes-none, goes-none-ref, Walks, ends-at, walked, walk-meets}
 use denote.Exit.{yes}
 use denote.Signature.{plain}
+use Rattle.lines.specs.Record.{most}
 use Rattle.tables.specs.Build.{noRow}
 use Rattle.maps.specs.inside.Halving.{headOf, upon, packed, hitOf, unpackOf, spanOf, endOf, Held, foundBy, foundOf}
 use Rattle.tables.specs.declared.table.Row.{Row}
@@ -183,7 +184,7 @@ module _ {M : Type 1} (𝓤 : URA M) (H : Heap 𝓤) (A : Atoms 𝓤) (W : Given
 
     goes-to : (ν l : ℕ) (δ : GName) → ent 𝓤 (sep 𝓤 (A .lft κ q) (sep 𝓤 (sem 𝓤 H A Own) (sep 𝓤 (A .lft (ν ∷ []) fullShare) (sem 𝓤 H A (Lends 𝓤 H A W TR.the-type TR′.the-laws TR′.the-plain (ν ∷ []) l (named 1) δ noRow))))) (Search 𝓤 H A W mem run .pre (to ν l δ))
     goes-to ν l δ =
-        let most : hi ≤ 128 = span-most (headOf t) offset in
+        let most : hi ≤ most = span-most (headOf t) offset in
         goes 𝓤 H A W mem run κ (ν ∷ []) q fullShare b o γ t l 0 δ noRow 0 hi offset 0 (omega arith) (omega (arith, most)) offset-fits (omega arith) (most, omega (arith, most))
 
     abbrev found : ℕ

@@ -1,4 +1,4 @@
--- `maps::stepping::begin` meets its contract. A count above 128 is told first. Otherwise it is the stand before any piece.
+-- `maps::stepping::begin` meets its contract. A count above `most` is told first. Otherwise it is the stand before any piece.
 -- Assumes nothing.
 use Rattle.maps.proofs.Steps.{begins}
 use Rattle.maps.proofs.stepping.begin.Statement.{statement}

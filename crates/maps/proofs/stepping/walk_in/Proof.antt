@@ -211,8 +211,8 @@ module _ {M : Type 1} (𝓤 : URA M) (H : Heap 𝓤) (A : Atoms 𝓤) (W : Given
   Nearer-wf : WellFounded Nearer
   Nearer-wf = InvImage·wf (λ (z : X). R - z .0 .at) (Nat·lt-wfRel .wf)
 
-  -- the room is at most 128, and at most the list's length
-  room-most : (k j : ℕ) → k < min (min j n) most → (k < n) × (k < 128)
+  -- the room is at most most, and at most the list's length
+  room-most : (k j : ℕ) → k < min (min j n) most → (k < n) × (k < most)
   room-most k j h = (omega arith, omega arith)
 
   room-fits : (j : ℕ) → min (min j n) most < 2 ^ 64

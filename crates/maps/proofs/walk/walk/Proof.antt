@@ -1,4 +1,4 @@
--- `maps::walk::walk` meets its contract: a walk of its MIR, by hand. The table and the list are lent on to `walk_in`, with 128 places, which are as many as the walk's definition allows.
+-- `maps::walk::walk` meets its contract: a walk of its MIR, by hand. The table and the list are lent on to `walk_in`, with `most` places, which are as many as the walk's definition allows.
 -- Assumes nothing.
 use mathlib.Core.Path.{_≡_, refl, ap}
 use Prim.Native.Nat.{ℕ, _<_, _^_, min}
@@ -19,7 +19,7 @@ use ghost.Atoms.{Atoms, sem}
 use contract.Monad.{Fun}
 use contract.Running.{givenOf, tables, tablesOf}
 use types.Kit.{Given, ‵, raw, given, some, later, _⊛_, _$_, _∵_, !, qed, by, move, keep, use1, use2, use3, split, join, pick, learn, fsplit, fjoin, suffices, frame, await, done}
-use types.Run.{look, init, forget, stop, hop, fld, from, load, lit, addr, and-then, no-more, assigns, land, returns, enter, alloc1, alloc0, params1, pass1, pass0, free1, free0}
+use types.Run.{look, init, forget, stop, hop, fld, from, load, addr, and-then, no-more, assigns, land, returns, enter, alloc1, alloc0, params1, pass1, pass0, free1, free0}
 use types.Part.{agg, whole as all, sub, look-in}
 use types.Tokens.{lft-new, lft-end}
 use sound.WpLaws.{FmC, fmOf, WpFn-mono}
@@ -47,6 +47,7 @@ use Rattle.tables.proofs.table.Piece as TP
 use Rattle.tables.proofs.table.Table as TT
 use Rattle.tables.proofs.table.Walked as TW
 use Rattle.tables.proofs.table.Walked.Laws as TW′
+use Rattle.lending.proofs.Literals.{big-lit}
 use Rattle.lending.proofs.Again.{LentAgain, lends-again, comes-back}
 use Rattle.maps.proofs.Lent.{WalkIn, to-walk, goes, comes}
 use Rattle.maps.proofs.Marks.{walk-room}
@@ -61,8 +62,8 @@ use Rattle.maps.proofs.walk.walk.Code as code
 abbrev stayed : Stays (self.ended .signature .params) (self.ended .kept)
 stayed = (stay-none-ref (0 ∷ []) tt (plain (λ _. TT.the-row)) yes, (stay-slice (1 ∷ []) tt (plain (λ _. TP.the-row)), (stay-none (λ _. u64) yes, (stay-none (λ _. u64) yes, tt))))
 
--- 128 places are no bound besides the walk's own
-rooms : (n : ℕ) → min (min 128 n) most ≡ min n most
+-- `most` places are no bound besides the walk's own
+rooms : (n : ℕ) → min (min most n) most ≡ min n most
 rooms n = omega arith
 
 -- κ₀ is the table's lifetime, and κ the list's
@@ -73,7 +74,7 @@ module _ {M : Type 1} (𝓤 : URA M) (H : Heap 𝓤) (A : Atoms 𝓤) (W : Given
 
   -- the walk as `walk_in` makes it
   abbrev made : Walk
-  made = walkOf t (min 128 n) pos left
+  made = walkOf t (min most n) pos left
 
   abbrev x₀ : RefT Table
   x₀ = record { ptr = (b₀, o₀); name = γ₀; now = t }
@@ -107,7 +108,7 @@ module _ {M : Type 1} (𝓤 : URA M) (H : Heap 𝓤) (A : Atoms 𝓤) (W : Given
 
   exits : length (listed made ys) ≡ n → (w : Val) → Is TW.the-row (walked made) (w ∷ []) → ent 𝓤 (sep 𝓤 (sem 𝓤 H A (Has (listed made ys))) (sep 𝓤 (A .lft κ q) (sep 𝓤 (sem 𝓤 H A Own) (A .lft κ₀ q₀)))) (Post w)
   exits long w is =
-      let e : made ≡ walkOf t n pos left = walk-room t (min 128 n) n pos left (rooms n) in
+      let e : made ≡ walkOf t n pos left = walk-room t (min most n) n pos left (rooms n) in
       qed W (‵ (Has (listed made ys)) ∷ ‵ (flft κ q) ∷ ‵ Own ∷ ‵ (flft κ₀ q₀) ∷ []) ∵
       suffices ! _ (ends-at 𝓤 H A self.ended stayed (self.clauses 𝓤 H A mem run) W (((κ₀, (κ, tt)), (q₀, (q, tt)), tt, a, vals), tt) w (walked made) (tt, (listed made ys, (tt, (tt, tt)))) (tt, (long, (tt, (tt, tt))))) $
       says ! (ap walked e, ap (λ (z : Walk). listed z ys) e) $
@@ -118,7 +119,7 @@ module _ {M : Type 1} (𝓤 : URA M) (H : Heap 𝓤) (A : Atoms 𝓤) (W : Given
   module _ (C : Calls 𝓤 H) (Λ : Loops 𝓤 H) (fm : FmC 𝓤 H (W .laws) C) (known : Triple 𝓤 (C #walk-in) (WalkIn 𝓤 H A W mem run)) where
     -- what the callee's triple binds outside, the list lent again for ν under the name δ
     abbrev to : ℕ → GName → WalkIn 𝓤 H A W mem run .Ghost
-    to ν δ = to-walk 𝓤 H A W mem run κ₀ (ν ∷ []) q₀ fullShare b₀ o₀ γ₀ t b o δ ys n refl 128 pos left (lit< tt) pos-fits left-fits
+    to ν δ = to-walk 𝓤 H A W mem run κ₀ (ν ∷ []) q₀ fullShare b₀ o₀ γ₀ t b o δ ys n refl most pos left (lit< tt) pos-fits left-fits
 
     walk : ent 𝓤 (onEntry 𝓤 H A self.signature (κ₀, (κ, tt)) (q₀, (q, tt)) a vals) (WpFn 𝓤 H C Λ code.function (p ∷ s ∷ vint w64 pos ∷ vint w64 left ∷ []) Post)
     walk =
@@ -137,11 +138,11 @@ module _ {M : Type 1} (𝓤 : URA M) (H : Heap 𝓤) (A : Atoms 𝓤) (W : Given
         move ! (3 ∷ []) $ use1 W (‵ Own ⊛ ‵ Own) (shr-copy 𝓤 H A W (named 0) κ₀ TT.the-row .twice x₀ (p ∷ [])) $ split ! $
         -- [the table; again; the list; what was kept; ν's token; the table's token; _6; …]
         move ! (4 ∷ 2 ∷ []) $ join ! $ move ! (1 ∷ 0 ∷ []) $ join ! $ move ! (3 ∷ 0 ∷ []) $ join ! $
-        use1 W (raw (WalkIn 𝓤 H A W mem run .pre (to ν δ))) (goes 𝓤 H A W mem run κ₀ (ν ∷ []) q₀ fullShare b₀ o₀ γ₀ t b o δ ys n refl 128 pos left (lit< tt) pos-fits left-fits) $
+        use1 W (raw (WalkIn 𝓤 H A W mem run .pre (to ν δ))) (goes 𝓤 H A W mem run κ₀ (ν ∷ []) q₀ fullShare b₀ o₀ γ₀ t b o δ ys n refl most pos left (lit< tt) pos-fits left-fits) $
         -- [what is asked; the table; what was kept; _6; …]
-        calls-at ! fm (WalkIn 𝓤 H A W mem run) known (to ν δ) (and-then ! (load ! (from ! (stop !)) (look ! 13 refl)) (and-then ! (load ! (from ! (stop !)) (look ! 3 refl)) (and-then ! (lit ! tt) (and-then ! (load ! (from ! (stop !)) (look ! 9 refl)) (and-then ! (load ! (from ! (stop !)) (look ! 7 refl)) (no-more !)))))) (λ w.
+        calls-at ! fm (WalkIn 𝓤 H A W mem run) known (to ν δ) (and-then ! (load ! (from ! (stop !)) (look ! 13 refl)) (and-then ! (load ! (from ! (stop !)) (look ! 3 refl)) (and-then ! (big-lit ! (record { fits = lit< tt })) (and-then ! (load ! (from ! (stop !)) (look ! 9 refl)) (and-then ! (load ! (from ! (stop !)) (look ! 7 refl)) (no-more !)))))) (λ w.
         use1 W (later (given (Is TW.the-row (walked made) (w ∷ []) × (length (listed made ys) ≡ n)) (‵ (finally TP.the-row δ (listed made ys)) ⊛ (‵ (flft κ₀ q₀) ⊛ ‵ (flft (ν ∷ []) fullShare)))))
-        (comes 𝓤 H A W mem run κ₀ (ν ∷ []) q₀ fullShare b₀ o₀ γ₀ t b o δ ys n refl 128 pos left (lit< tt) pos-fits left-fits w) $ await ! tt $ learn ! (λ f. split ! $ move ! (1 ∷ []) $ split ! $ move ! (1 ∷ []) $ lft-end ! tt $
+        (comes 𝓤 H A W mem run κ₀ (ν ∷ []) q₀ fullShare b₀ o₀ γ₀ t b o δ ys n refl most pos left (lit< tt) pos-fits left-fits w) $ await ! tt $ learn ! (λ f. split ! $ move ! (1 ∷ []) $ split ! $ move ! (1 ∷ []) $ lft-end ! tt $
         -- [ν is dead; the table's token; the last list; the table; what was kept; _6; …]
         move ! (0 ∷ 4 ∷ 2 ∷ []) $
         use3 W (later (‵ (Has (listed made ys)) ⊛ ‵ (flft κ q))) (comes-back TP.the-row κ (ν ∷ []) q γ b o n 𝓤 H A W (named 1) (named 1) ys refl δ (listed made ys) room (f .1)) $ await ! tt $ split ! $

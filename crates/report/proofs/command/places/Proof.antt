@@ -1,4 +1,4 @@
--- `places` meets its contract. A range and a number up to 128 make a walk. Anything else makes a usage. Assumes nothing.
+-- `places` meets its contract. A range and a number up to `most` make a walk. Anything else makes a usage. Assumes nothing.
 use Rattle.report.proofs.Commands.{placings}
 use Rattle.report.proofs.command.places.Statement.{statement}
 use Rattle.report.proofs.command.places.Tie as tie

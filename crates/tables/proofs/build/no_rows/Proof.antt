@@ -1,4 +1,4 @@
--- `tables::build::no_rows` meets its contract. 128 times the same row is the definition's empty list, filled up. Nothing else is there to show.
+-- `tables::build::no_rows` meets its contract. So many times the same row is the definition's empty list, filled up.
 -- Assumes nothing.
 use Rattle.tables.proofs.Builds.{blanks}
 use Rattle.tables.proofs.build.no_rows.Statement.{statement}

@@ -1,5 +1,5 @@
 -- `timing::walk::tours` meets its contract: a walk of its MIR, by hand, with a loop. Each turn lends the table and the local list to `walk`, then the list to `add_pieces`, each time for a lifetime of the call, and hands the sum to `toured`.
--- The loop's invariant: the list has 128 places, the mark is ready where there is one more walk, and the sum that is to come from it is the sum of all.
+-- The loop's invariant: the list has most places, the mark is ready where there is one more walk, and the sum that is to come from it is the sum of all.
 -- Assumes nothing.
 use mathlib.Core.Path.{_≡_, refl, sym, _∙_, ap, subst}
 use mathlib.Core.Bool.{Bool, true, false}
@@ -22,7 +22,7 @@ use ghost.Atoms.{Atoms, sem}
 use contract.Monad.{Fun, fact}
 use contract.Running.{givenOf, tables, tablesOf}
 use types.Kit.{Given, Item, ‵, raw, later, given, some, _⊛_, Sq, runs as runsᴹ, anyQ, atRet, _$_, _∵_, !, qed, by, move, keep, use0, use1, use2, use3, split, join, pick, rewrite, learn, fsplit, fjoin, suffices, frame, await, done}
-use types.Run.{look, init, store, forget, stop, fld, from, load, lit, addr, of-opd, and-then, no-more, assigns, land, land-last, first, blocks, loops, again, Below, stays, leaves-loop, exec, returns, enter, alloc1, alloc0, params1, pass1, pass0, free1, free0}
+use types.Run.{look, init, store, forget, stop, fld, from, load, addr, of-opd, and-then, no-more, assigns, land, land-last, first, blocks, loops, again, Below, stays, leaves-loop, exec, returns, enter, alloc1, alloc0, params1, pass1, pass0, free1, free0}
 use types.Part.{agg, whole, sub, look-in}
 use types.Tokens.{lft-new, lft-end}
 use sound.WpLaws.{FmC, fmOf, WpFn-mono}
@@ -45,8 +45,9 @@ use denote.Triple.Table.{entered, cited}
 use denote.Triple.Walked.{says, Stays, stay-none, stay-none-ref, walkOf as walkedOf, goes-none, goes-none-ref, Walks as Walksᴹ, ends-at, walked as walkedᴹ, walk-meets}
 use denote.Exit.{yes}
 use denote.Signature.{plain}
+use Rattle.lines.specs.Record.{most}
 use Rattle.maps.specs.Walk.{Walk, walkOf, walked, listed}
-use Rattle.maps.specs.Listing.{noPieces}
+use Rattle.maps.specs.Walk.{noPieces}
 use Rattle.tables.specs.declared.table.Table.{Table}
 use Rattle.tables.specs.declared.table.Piece.{Piece}
 use Rattle.timing.specs.Walk.{piecesIn, walkSum}
@@ -61,6 +62,7 @@ use Rattle.tables.proofs.table.Walked.Laws as TW′
 use Rattle.timing.proofs.walk.Tour as TK
 use Rattle.timing.proofs.walk.Tour.Laws as TK′
 use Rattle.lending.proofs.Plain.{asks, answers}
+use Rattle.lending.proofs.Literals.{big-lit}
 use Rattle.lending.proofs.Local.{lends-array, array-back}
 use Rattle.timing.proofs.LentList.{Walks, to-walk, goes, comes, Adds, to-add, goes-add, comes-add}
 use Rattle.timing.proofs.Turns.{near}
@@ -147,20 +149,20 @@ module _ {M : Type 1} (𝓤 : URA M) (H : Heap 𝓤) (A : Atoms 𝓤) (W : Given
       nothing ! $ owned ! u64 (Is u64) (uint-makes 𝓤 H A W w64) n _ (refl, n-fits) $ fjoin ! $ owned ! u64 (Is u64) (uint-makes 𝓤 H A W w64) window _ (refl, window-fits) $ fjoin ! $ move ! (1 ∷ 0 ∷ []) $ fjoin ! $
       owned ! u64 (Is u64) (uint-makes 𝓤 H A W w64) r _ is $ move ! (1 ∷ 0 ∷ []) $ done !
 
-  room : Room TP.the-row 128
+  room : Room TP.the-row most
   room = (lit< tt, lit< tt)
 
-  makes-list : Makes 𝓤 H A (Array TP.the-row 128) (Is (Array TP.the-row 128))
-  makes-list = array-makes 𝓤 H A W TP.the-row (LL.makes TP.the-type TP′.the-plain 𝓤 H A) 128
+  makes-list : Makes 𝓤 H A (Array TP.the-row most) (Is (Array TP.the-row most))
+  makes-list = array-makes 𝓤 H A W TP.the-row (LL.makes TP.the-type TP′.the-plain 𝓤 H A) most
 
-  typed-list : (ps : List Piece) (v : Val) → Is (Array TP.the-row 128) ps (v ∷ []) → T (hasTy (tyArray TP′.mir 128) v) × WT v
-  typed-list ps v is = array-lawful 𝓤 H A W TP.the-row (LL.lawful TP.the-type TP′.the-laws 𝓤 H A W) 128 .typed ps _ is .0
+  typed-list : (ps : List Piece) (v : Val) → Is (Array TP.the-row most) ps (v ∷ []) → T (hasTy (tyArray TP′.mir most) v) × WT v
+  typed-list ps v is = array-lawful 𝓤 H A W TP.the-row (LL.lawful TP.the-type TP′.the-laws 𝓤 H A W) most .typed ps _ is .0
 
   -- where the loop stands: a mark, a list, and its machine value
   pub record Good (k : Tour) (zs : List Piece) (v : Val) : Type 0 where
     pub is : Is TK.the-row k (vk k ∷ [])
-    pub is-list : Is (Array TP.the-row 128) zs (v ∷ [])
-    pub long : length zs ≡ 128
+    pub is-list : Is (Array TP.the-row most) zs (v ∷ [])
+    pub long : length zs ≡ most
     pub going : Going k
     pub ends : sumFrom t k ≡ last
 
@@ -228,7 +230,7 @@ module _ {M : Type 1} (𝓤 : URA M) (H : Heap 𝓤) (A : Atoms 𝓤) (W : Given
     abbrev next : Tour → List Piece → Tour
     next k zs = touredOf k (summed k zs)
 
-    ends-next : (k : Tour) (zs : List Piece) → length zs ≡ 128 → 0 < k .left → sumFrom t k ≡ last → sumFrom t (next k zs) ≡ last
+    ends-next : (k : Tour) (zs : List Piece) → length zs ≡ most → 0 < k .left → sumFrom t k ≡ last → sumFrom t (next k zs) ≡ last
     ends-next k zs long l e = ap (λ (s : ℕ). sumFrom t (touredOf k s)) (tour-adds t k zs long) ∙ sum-turn t k l ∙ e
 
     many-fits : (k : Tour) (zs : List Piece) (w : Val) → Is TW.the-row (walked (made k zs)) (w ∷ []) → many k zs < 2 ^ 64
@@ -239,16 +241,16 @@ module _ {M : Type 1} (𝓤 : URA M) (H : Heap 𝓤) (A : Atoms 𝓤) (W : Given
       tref = tyRef (named 0) imm (pointee (TT.the-row .written))
 
       abbrev arr : Ty
-      arr = tyArray TP′.mir 128
+      arr = tyArray TP′.mir most
 
       abbrev aref : Ty
-      aref = tyRef erased mut (tyArray (pointee (TP.the-row .written)) 128)
+      aref = tyRef erased mut (tyArray (pointee (TP.the-row .written)) most)
 
       abbrev sref : Ty
       sref = sliceTy (tyRef erased mut (pointee (TP.the-row .written)))
 
       abbrev s : Val
-      s = sliceVal (l₄, 0) 128
+      s = sliceVal (l₄, 0) most
 
       abbrev En : Env 𝓤 H
       En = (tyInt w64, l₀) ∷ (tref, l₁) ∷ (tyInt w64, l₂) ∷ (tyInt w64, l₃) ∷ (arr, l₄) ∷ (TK′.mir, l₅) ∷ (TW′.mir, l₆) ∷ (tyInt w64, l₇) ∷ (arr, l₈) ∷ (tyBool, l₉) ∷ (aref, l₁₀) ∷ (sref, l₁₁) ∷ (aref, l₁₂) ∷ (sref, l₁₃) ∷ []
@@ -270,7 +272,7 @@ module _ {M : Type 1} (𝓤 : URA M) (H : Heap 𝓤) (A : Atoms 𝓤) (W : Given
       Lists ℓ ν δ zs = MutSlice ℓ (ν ∷ []) TP.the-row .own (record { ptr = (l₄, 0); name = δ; now = zs }) (s ∷ [])
 
       abbrev Kept : ℕ → GName → Fml
-      Kept ν δ = flent (ν ∷ []) (Held TP.the-row 128 l₄ 0 δ)
+      Kept ν δ = flent (ν ∷ []) (Held TP.the-row most l₄ 0 δ)
 
       turns : (z : X) (go : Bool) → z .0 .more ≡ go → Sq W (At z) (runsᴹ C Λ En body.turn-1 (anyQ (Round z)))
       unfolding afterTurn
@@ -280,42 +282,42 @@ module _ {M : Type 1} (𝓤 : URA M) (H : Heap 𝓤) (A : Atoms 𝓤) (W : Given
           assigns ! (of-opd ! (load ! (from ! (fld ! refl (stop !))) (look-in ! 18 (sub ! 0 refl (whole !))))) (from ! (stop !)) (init ! 10 refl (tt, tt)) $
           rewrite ! 10 (λ (y : Bool). ‵ (fat fullShare tyBool l₉ 0 (vbool y))) e refl $ stays ! (load ! (from ! (stop !)) (look ! 10 refl)) $
           assigns ! (addr ! (from ! (stop !))) (from ! (stop !)) (init ! 8 refl (tt, tt)) $
-          assigns ! (agg ! (and-then ! (load ! (from ! (stop !)) (look ! 8 refl)) (and-then ! (lit ! tt) (no-more !)))) (from ! (stop !)) (init ! 6 refl (tt, (tt, (record { fits = lit< tt }, tt)))) $
+          assigns ! (agg ! (and-then ! (load ! (from ! (stop !)) (look ! 8 refl)) (and-then ! (big-lit ! (record { fits = lit< tt })) (no-more !)))) (from ! (stop !)) (init ! 6 refl (tt, (tt, (record { fits = lit< tt }, tt)))) $
           -- `walk`: the table's `&` is copied, and the list is lent for ν
           use1 W (‵ Own ⊛ ‵ Own) (shr-copy 𝓤 H A W (named 0) κ TT.the-row .twice x (p ∷ [])) $ split ! $
           lft-new ! tt (λ ν. move ! (22 ∷ []) $
-          use1 W (later (some (λ (δ : GName). ‵ (Lists (named 1) ν δ zs) ⊛ ‵ (Kept ν δ)))) (lends-array 𝓤 H A W TP.the-row tt 128 (ν ∷ []) l₄ (named 1) makes-list zs v (good .is-list) room (good .long)) $ await ! tt $ pick ! (λ δ. split ! $
+          use1 W (later (some (λ (δ : GName). ‵ (Lists (named 1) ν δ zs) ⊛ ‵ (Kept ν δ)))) (lends-array 𝓤 H A W TP.the-row tt most (ν ∷ []) l₄ (named 1) makes-list zs v (good .is-list) room (good .long)) $ await ! tt $ pick ! (λ δ. split ! $
           -- [the list; what is kept of it; ν's token; the table; again; its token; _13; …]
           move ! (2 ∷ 0 ∷ []) $ join ! $ move ! (2 ∷ 0 ∷ []) $ join ! $ move ! (3 ∷ 0 ∷ []) $ join ! $
-          use1 W (raw (Walks 𝓤 H A W mem run .pre (to-walk 𝓤 H A W mem run κ (ν ∷ []) q fullShare b o γ t l₄ 0 δ zs 128 (good .long) (k .at) (k .window) (owed .1 .0 .1) (owed .1 .1 .0 .1)))) (goes 𝓤 H A W mem run κ (ν ∷ []) q fullShare b o γ t l₄ 0 δ zs 128 (good .long) (k .at) (k .window) (owed .1 .0 .1) (owed .1 .1 .0 .1)) $
+          use1 W (raw (Walks 𝓤 H A W mem run .pre (to-walk 𝓤 H A W mem run κ (ν ∷ []) q fullShare b o γ t l₄ 0 δ zs most (good .long) (k .at) (k .window) (owed .1 .0 .1) (owed .1 .1 .0 .1)))) (goes 𝓤 H A W mem run κ (ν ∷ []) q fullShare b o γ t l₄ 0 δ zs most (good .long) (k .at) (k .window) (owed .1 .0 .1) (owed .1 .1 .0 .1)) $
           -- [what is asked; what is kept; the table; _13; …; that _4 dies; …]
-          calls-at ! fm (Walks 𝓤 H A W mem run) known-walk (to-walk 𝓤 H A W mem run κ (ν ∷ []) q fullShare b o γ t l₄ 0 δ zs 128 (good .long) (k .at) (k .window) (owed .1 .0 .1) (owed .1 .1 .0 .1))
+          calls-at ! fm (Walks 𝓤 H A W mem run) known-walk (to-walk 𝓤 H A W mem run κ (ν ∷ []) q fullShare b o γ t l₄ 0 δ zs most (good .long) (k .at) (k .window) (owed .1 .0 .1) (owed .1 .1 .0 .1))
           (and-then ! (load ! (from ! (stop !)) (look ! 26 refl)) (and-then ! (load ! (from ! (stop !)) (look ! 7 refl)) (and-then ! (load ! (from ! (fld ! refl (stop !))) (look-in ! 19 (sub ! 1 refl (whole !)))) (and-then ! (load ! (from ! (fld ! refl (stop !))) (look-in ! 19 (sub ! 2 refl (whole !)))) (no-more !))))) (λ w.
           use1 W (later (given (Is TW.the-row (walked (made k zs)) (w ∷ []) × (length (left-by k zs) ≡ length zs)) (‵ (finally TP.the-row δ (left-by k zs)) ⊛ (‵ (flft κ q) ⊛ ‵ (flft (ν ∷ []) fullShare)))))
-          (comes 𝓤 H A W mem run κ (ν ∷ []) q fullShare b o γ t l₄ 0 δ zs 128 (good .long) (k .at) (k .window) (owed .1 .0 .1) (owed .1 .1 .0 .1) w) $ await ! tt $ learn ! (λ f. split ! $ move ! (1 ∷ []) $ split ! $ move ! (1 ∷ []) $ lft-end ! tt $
+          (comes 𝓤 H A W mem run κ (ν ∷ []) q fullShare b o γ t l₄ 0 δ zs most (good .long) (k .at) (k .window) (owed .1 .0 .1) (owed .1 .1 .0 .1) w) $ await ! tt $ learn ! (λ f. split ! $ move ! (1 ∷ []) $ split ! $ move ! (1 ∷ []) $ lft-end ! tt $
           -- [ν is dead; the table's token; the last list; what is kept; the table; _13; …]
           move ! (0 ∷ 3 ∷ 2 ∷ []) $
-          use3 W (later (some (λ (u : Val). given (Is (Array TP.the-row 128) (left-by k zs) (u ∷ [])) (‵ (fat fullShare arr l₄ 0 u))))) (array-back 𝓤 H A W TP.the-row tt 128 (ν ∷ []) l₄ δ (left-by k zs)) $ await ! tt $ pick ! (λ v₁. learn ! (λ is₁.
+          use3 W (later (some (λ (u : Val). given (Is (Array TP.the-row most) (left-by k zs) (u ∷ [])) (‵ (fat fullShare arr l₄ 0 u))))) (array-back 𝓤 H A W TP.the-row tt most (ν ∷ []) l₄ δ (left-by k zs)) $ await ! tt $ pick ! (λ v₁. learn ! (λ is₁.
           -- [_4; the table's token; the table; _13; …; _5; …; that _4 dies; …]
           land ! (from ! (stop !)) (init ! 17 refl (LL.lawful TW.the-type TW′.the-laws 𝓤 H A W .typed (walked (made k zs)) _ (f .0) .0)) $ rewrite ! 17 (λ (u : Val). ‵ (fat fullShare TW′.mir l₆ 0 u)) (ap only (LL.tells TW.the-type TW′.the-laws (walked (made k zs)) _ (f .0))) refl $
           let few : many k zs ≤ length (left-by k zs) = written-fits (made k zs) zs in
-          let long₁ : length (left-by k zs) ≡ 128 = (f .1) ∙ good .long in
+          let long₁ : length (left-by k zs) ≡ most = (f .1) ∙ good .long in
           let fits : many k zs < 2 ^ 64 = many-fits k zs w (f .0) in
           -- `add_pieces`: the list is lent for ν′
           assigns ! (addr ! (from ! (stop !))) (from ! (stop !)) (init ! 5 refl (tt, tt)) $
-          assigns ! (agg ! (and-then ! (load ! (from ! (stop !)) (look ! 5 refl)) (and-then ! (lit ! tt) (no-more !)))) (from ! (stop !)) (init ! 3 refl (tt, (tt, (record { fits = lit< tt }, tt)))) $
+          assigns ! (agg ! (and-then ! (load ! (from ! (stop !)) (look ! 5 refl)) (and-then ! (big-lit ! (record { fits = lit< tt })) (no-more !)))) (from ! (stop !)) (init ! 3 refl (tt, (tt, (record { fits = lit< tt }, tt)))) $
           lft-new ! tt (λ ν′. move ! (1 ∷ []) $
-          use1 W (later (some (λ (δ : GName). ‵ (Lists (named 0) ν′ δ (left-by k zs)) ⊛ ‵ (Kept ν′ δ)))) (lends-array 𝓤 H A W TP.the-row tt 128 (ν′ ∷ []) l₄ (named 0) makes-list (left-by k zs) v₁ is₁ room long₁) $ await ! tt $ pick ! (λ δ′. split ! $
+          use1 W (later (some (λ (δ : GName). ‵ (Lists (named 0) ν′ δ (left-by k zs)) ⊛ ‵ (Kept ν′ δ)))) (lends-array 𝓤 H A W TP.the-row tt most (ν′ ∷ []) l₄ (named 0) makes-list (left-by k zs) v₁ is₁ room long₁) $ await ! tt $ pick ! (λ δ′. split ! $
           -- [the list; what is kept of it; ν′'s token; the table's token; the table; _13; …]
           move ! (2 ∷ 0 ∷ []) $
-          use2 W (raw (Adds 𝓤 H A W mem run .pre (to-add 𝓤 H A W mem run (ν′ ∷ []) fullShare l₄ 0 δ′ (left-by k zs) 128 long₁ (many k zs) (k .sum) fits (owed .1 .1 .1 .1 .0 .1) few))) (goes-add 𝓤 H A W mem run (ν′ ∷ []) fullShare l₄ 0 δ′ (left-by k zs) 128 long₁ (many k zs) (k .sum) fits (owed .1 .1 .1 .1 .0 .1) few) $
+          use2 W (raw (Adds 𝓤 H A W mem run .pre (to-add 𝓤 H A W mem run (ν′ ∷ []) fullShare l₄ 0 δ′ (left-by k zs) most long₁ (many k zs) (k .sum) fits (owed .1 .1 .1 .1 .0 .1) few))) (goes-add 𝓤 H A W mem run (ν′ ∷ []) fullShare l₄ 0 δ′ (left-by k zs) most long₁ (many k zs) (k .sum) fits (owed .1 .1 .1 .1 .0 .1) few) $
           -- [what is asked; what is kept; the table's token; the table; _13; …; that _4 dies; …]
-          calls-at ! fm (Adds 𝓤 H A W mem run) known-add (to-add 𝓤 H A W mem run (ν′ ∷ []) fullShare l₄ 0 δ′ (left-by k zs) 128 long₁ (many k zs) (k .sum) fits (owed .1 .1 .1 .1 .0 .1) few)
+          calls-at ! fm (Adds 𝓤 H A W mem run) known-add (to-add 𝓤 H A W mem run (ν′ ∷ []) fullShare l₄ 0 δ′ (left-by k zs) most long₁ (many k zs) (k .sum) fits (owed .1 .1 .1 .1 .0 .1) few)
           (and-then ! (load ! (from ! (stop !)) (look ! 4 refl)) (and-then ! (load ! (from ! (fld ! refl (stop !))) (look-in ! 18 (sub ! 0 refl (whole !)))) (and-then ! (load ! (from ! (fld ! refl (stop !))) (look-in ! 20 (sub ! 4 refl (whole !)))) (no-more !)))) (λ w₂.
-          use1 W (later (given (Is u64 (summed k zs) (w₂ ∷ [])) (‵ (finally TP.the-row δ′ (left-by k zs)) ⊛ ‵ (flft (ν′ ∷ []) fullShare)))) (comes-add 𝓤 H A W mem run (ν′ ∷ []) fullShare l₄ 0 δ′ (left-by k zs) 128 long₁ (many k zs) (k .sum) fits (owed .1 .1 .1 .1 .0 .1) few w₂) $ await ! tt $ learn ! (λ is-s. split ! $ move ! (1 ∷ []) $ lft-end ! tt $
+          use1 W (later (given (Is u64 (summed k zs) (w₂ ∷ [])) (‵ (finally TP.the-row δ′ (left-by k zs)) ⊛ ‵ (flft (ν′ ∷ []) fullShare)))) (comes-add 𝓤 H A W mem run (ν′ ∷ []) fullShare l₄ 0 δ′ (left-by k zs) most long₁ (many k zs) (k .sum) fits (owed .1 .1 .1 .1 .0 .1) few w₂) $ await ! tt $ learn ! (λ is-s. split ! $ move ! (1 ∷ []) $ lft-end ! tt $
           -- [ν′ is dead; the last list; what is kept; the table's token; the table; _13; …]
           move ! (0 ∷ 2 ∷ 1 ∷ []) $
-          use3 W (later (some (λ (u : Val). given (Is (Array TP.the-row 128) (left-by k zs) (u ∷ [])) (‵ (fat fullShare arr l₄ 0 u))))) (array-back 𝓤 H A W TP.the-row tt 128 (ν′ ∷ []) l₄ δ′ (left-by k zs)) $ await ! tt $ pick ! (λ v₂. learn ! (λ is₂.
+          use3 W (later (some (λ (u : Val). given (Is (Array TP.the-row most) (left-by k zs) (u ∷ [])) (‵ (fat fullShare arr l₄ 0 u))))) (array-back 𝓤 H A W TP.the-row tt most (ν′ ∷ []) l₄ δ′ (left-by k zs)) $ await ! tt $ pick ! (λ v₂. learn ! (λ is₂.
           land ! (from ! (stop !)) (init ! 15 refl (subst (λ (u : Val). T (hasTy (tyInt w64) u) × WT u) (sym (ap only (is-s .0))) (tt, record { fits = is-s .1 }))) $ rewrite ! 15 (λ (u : Val). ‵ (fat fullShare (tyInt w64) l₇ 0 u)) (ap only (is-s .0)) refl $
           -- [_4; the table's token; the table; _13; …]: in their order again
           keep ! (2 ∷ 1 ∷ 3 ∷ 4 ∷ 5 ∷ 6 ∷ 7 ∷ 8 ∷ 9 ∷ 10 ∷ 11 ∷ 12 ∷ 13 ∷ 14 ∷ 15 ∷ 16 ∷ 17 ∷ 18 ∷ 19 ∷ 20 ∷ 0 ∷ 21 ∷ 22 ∷ 23 ∷ 24 ∷ 25 ∷ 26 ∷ 27 ∷ 28 ∷ 29 ∷ []) $
@@ -345,7 +347,7 @@ module _ {M : Type 1} (𝓤 : URA M) (H : Heap 𝓤) (A : Atoms 𝓤) (W : Given
       starts =
           -- `blanks`
           use0 W (raw (Blanks 𝓤 H A mem run .pre to-blanks)) goes-blanks $ calls-at ! fm (Blanks 𝓤 H A mem run) known-blanks to-blanks (no-more !) (λ v₀.
-          use1 W (later (raw (fact 𝓤 (Is (Array TP.the-row 128) noPieces (v₀ ∷ []))))) (answers 𝓤 H A W blanks.ended (blanks.clauses 𝓤 H A mem run) to-blanks noPieces (λ r ws. id⊢ 𝓤 _) v₀) $ await ! tt $ heard ! (Is (Array TP.the-row 128) noPieces (v₀ ∷ [])) (λ is₀.
+          use1 W (later (raw (fact 𝓤 (Is (Array TP.the-row most) noPieces (v₀ ∷ []))))) (answers 𝓤 H A W blanks.ended (blanks.clauses 𝓤 H A mem run) to-blanks noPieces (λ r ws. id⊢ 𝓤 _) v₀) $ await ! tt $ heard ! (Is (Array TP.the-row most) noPieces (v₀ ∷ [])) (λ is₀.
           land ! (from ! (stop !)) (init ! 12 refl (typed-list noPieces v₀ is₀)) $
           assigns ! (of-opd ! (load ! (from ! (stop !)) (look ! 12 refl))) (from ! (stop !)) (init ! 20 refl (typed-list noPieces v₀ is₀)) $ forget ! 12 refl $
           -- `set_out`

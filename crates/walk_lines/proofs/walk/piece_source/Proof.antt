@@ -13,7 +13,6 @@ piece-source-spec =
     (λ c κs. search pieceParts)
     (λ c. search pieceParts)
     (λ c κs. search pieceParts)
-    (λ c κs. search pieceParts)
     (λ c. search pieceParts)
     (λ c. search pieceParts)
     (λ c. search pieceParts)

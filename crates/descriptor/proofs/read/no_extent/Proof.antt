@@ -1,7 +1,0 @@
-use borrow.Author.Needs.{needs}
-use Rattle.descriptor.proofs.Reading.{nones}
-use Rattle.descriptor.proofs.read.no_extent.Statement.{statement}
-use Rattle.descriptor.proofs.read.no_extent.Tie as tie
-
-pub no-extent-spec : {M : Type 1} → statement M
-no-extent-spec = tie.close (tie.spec (λ c κs. search needs) (λ c. search nones))
