@@ -1,5 +1,5 @@
 #!/usr/bin/env python3
-"""paper.py < CASES > ANSWERS: a third voice, written from document 01 alone and not from the Rust.
+"""paper.py < CASES > ANSWERS: a third voice, written from documents 01 and 02 alone and not from the Rust.
 
 It reads a case file and writes the answers that FORMAT.md tells. Plain lists and loops, in the
 order and the words of the document's rules; nothing of Python's own notion of blanks, digits or
@@ -123,7 +123,7 @@ def probe(descriptor):
 
 
 class Record:
-    """What reading returns; extents are (access, kind, sectors, file start in sectors, name)."""
+    """What reading returns; extents are (line, access, kind, sectors, file start in sectors, name)."""
 
     def __init__(self):
         self.version = 0
@@ -139,11 +139,11 @@ def read_extent(text, line):
     if sectors is None:
         raise Refused(5, line)
     if access == "NOACCESS":
-        return (access, "NOACCESS", sectors, 0, "")
+        return (line, access, "NOACCESS", sectors, 0, "")
     if len(word) < 3:
         raise Refused(6, line)
     if word[2] == "ZERO":
-        return (access, "ZERO", sectors, 0, "")
+        return (line, access, "ZERO", sectors, 0, "")
     if word[2] != "FLAT":
         raise Refused(7, line)
     first = text.find('"')
@@ -158,7 +158,7 @@ def read_extent(text, line):
     start = number(after[0]) if after else 0
     if start is None:
         raise Refused(11, line)
-    return (access, "FLAT", sectors, start, trim(text[first + 1:second]))
+    return (line, access, "FLAT", sectors, start, trim(text[first + 1:second]))
 
 
 def first_blank(text):
@@ -208,13 +208,14 @@ def read_line(record, text, line):
 def sizes(extents):
     """Each extent in turn: its size, the sum, and the row's start; 18 and 19."""
     total = 0
-    for index, extent in enumerate(extents):
-        size = extent[2] * SECTOR
+    for extent in extents:
+        line, _, _, sectors, _, _ = extent
+        size = sectors * SECTOR
         if size > LARGEST:
-            raise Refused(18, index)
+            raise Refused(18, line)
         if total + size > LARGEST:
-            raise Refused(19, index)
-        yield index, extent, total, total + size
+            raise Refused(19, line)
+        yield extent, total, total + size
         total += size
 
 
@@ -239,12 +240,12 @@ def read(descriptor):
 
 
 def build(record):
-    """The rows: (start, end, access, kind, file start in bytes, name)."""
+    """The rows: (start, end, access, kind, file start in bytes, name, line)."""
     rows = []
-    for index, (access, kind, _, file_start, name), start, end in sizes(record.extents):
+    for (line, access, kind, _, file_start, name), start, end in sizes(record.extents):
         if kind == "FLAT" and file_start * SECTOR > LARGEST:
-            raise Refused(20, index)
-        rows.append((start, end, access, kind, file_start * SECTOR, name))
+            raise Refused(20, line)
+        rows.append((start, end, access, kind, file_start * SECTOR, name, line))
     return rows
 
 
@@ -271,7 +272,7 @@ def mapping(rows, size, offset, length):
     row, looked = find(rows, offset)
     if row is None:
         return ("end", 0, 0, 0, "", "", looked)
-    start, end, access, kind, file_start, name = rows[row]
+    start, end, access, kind, file_start, name, _ = rows[row]
     if kind == "NOACCESS":
         return (21, 0, 0, 0, "", "", looked)
     run = min(length, size - offset, end - offset)
@@ -335,13 +336,13 @@ def answer(case, descriptor, queries):
     yield line("v", record.version, geometry["sectors"], geometry["heads"], geometry["cylinders"], text=record.cid)
     yield line("p", text=record.parent_cid)
     yield line("t", size, len(rows), text=record.create_type)
-    for index, (start, end, access, kind, file_start, name) in enumerate(rows):
+    for start, end, access, kind, file_start, name, said in rows:
         if kind == "FLAT":
-            yield line("F", index, start, end, writable(access), file_start, text=name)
+            yield line("F", said, start, end, writable(access), file_start, text=name)
         elif kind == "ZERO":
-            yield line("Z", index, start, end, writable(access))
+            yield line("Z", said, start, end, writable(access))
         else:
-            yield line("N", index, start, end)
+            yield line("N", said, start, end)
     for what, offset, length, places in queries:
         if what == 1:
             yield from walk(rows, size, offset, length, places)

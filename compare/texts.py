@@ -3,7 +3,7 @@
 
     compare/texts.py [PAPER] > crates/vmdkmap_cases/stdout
 
-PAPER is paper.py, which stands beside this file; it is written from document 01 alone. It answers whole cases, in lines of a letter
+PAPER is paper.py, which stands beside this file; it is written from documents 01 and 02 alone. It answers whole cases, in lines of a letter
 and numbers (FORMAT.md); here the lines that a mode writes are picked out and put into the program's words. The rules
 of the arguments and number 24 are written out below.
 """
@@ -58,6 +58,16 @@ def first(numbers):
     return lines + [b"refused %d %d" % (number, second)] if number else lines
 
 
+def numbered(lines):
+    """The lines, those of rows with the row's number, as the report has it, in place of its line in the descriptor."""
+    row = 0
+    for letter, numbers, text in lines:
+        if letter in "FZN":
+            numbers[0] = row
+            row += 1
+        yield letter, numbers, text
+
+
 def texts(letter, numbers, text):
     """A line of an answer as the lines that the program writes."""
     a, b, c, d, e = numbers
@@ -87,7 +97,7 @@ def answer(descriptor, mode):
     if len(descriptor) > MOST_INPUT:
         return [b"refused 24 0"]
     if mode[0] == "report":
-        return [text for line in paper(descriptor, []) for text in texts(*line)]
+        return [text for line in numbered(paper(descriptor, [])) for text in texts(*line)]
     query = (0, mode[1], mode[2], 0) if mode[0] == "map" else (1, *mode[1:])
     start, *lines = paper(descriptor, [query])
     if not lines:

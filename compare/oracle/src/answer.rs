@@ -96,18 +96,19 @@ fn write_image(image: &Image, out: &mut impl Write) -> io::Result<()> {
     Line('v', [image.version().into(), sectors, heads, cylinders, 0], cid).write(out)?;
     Line('p', [0; 5], parent_cid).write(out)?;
     Line('t', [image.size(), image.rows() as u64, 0, 0, 0], create_type).write(out)?;
-    (0..image.rows()).try_for_each(|row| row_line(image, row).write(out))
+    let mut rows = image.lines().into_iter().enumerate();
+    rows.try_for_each(|(row, said)| row_line(image, row, said).write(out))
 }
 
-/// The line of a row.
-fn row_line(image: &Image, row: usize) -> Line<'_> {
-    let (number, range) = (row as u64, image.range(row));
+/// The line of a row, which a line of the descriptor said.
+fn row_line(image: &Image, row: usize, said: u64) -> Line<'_> {
+    let range = image.range(row);
     match image.source(row) {
         Source::Flat { writable, file_start, name } => {
-            Line('F', [number, range.start, range.end, writable.into(), file_start], name)
+            Line('F', [said, range.start, range.end, writable.into(), file_start], name)
         }
-        Source::Zero { writable } => Line('Z', [number, range.start, range.end, writable.into(), 0], ""),
-        Source::NoAccess => Line('N', [number, range.start, range.end, 0, 0], ""),
+        Source::Zero { writable } => Line('Z', [said, range.start, range.end, writable.into(), 0], ""),
+        Source::NoAccess => Line('N', [said, range.start, range.end, 0, 0], ""),
     }
 }
 

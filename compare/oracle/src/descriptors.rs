@@ -305,19 +305,23 @@ fn faulty(draw: &mut Draw) -> Vec<u8> {
                 lines.retain(|line| !line.starts_with(b"version"));
                 continue;
             }
-            14 => {
-                let (sectors, start) = (too_large(draw), number(draw));
-                extent(&sectors, &start, draw).replace('_', " ").replace('~', "").into_bytes()
-            }
-            15 => {
-                let start = too_large(draw);
-                format!("RW {} FLAT \"x\" {start}", sectors(draw)).into_bytes()
-            }
+            14 | 15 => large(draw),
             refusal => fault(refusal + 4, draw),
         };
         lines.insert(draw.below(lines.len() as u64 + 1) as usize, line);
     }
     join(&lines, draw)
+}
+
+/// An extent whose sectors or whose file start are at or around the largest that are a number of bytes.
+fn large(draw: &mut Draw) -> Vec<u8> {
+    if draw.once_in(2) {
+        let start = too_large(draw);
+        return format!("RW {} FLAT \"x\" {start}", sectors(draw)).into_bytes();
+    }
+    let (sectors, start) = (too_large(draw), number(draw));
+    let line = extent(&sectors, &start, draw);
+    dress(&line, Dress::Plain, draw).into_bytes()
 }
 
 /// A number of sectors at or around the largest that is a number of bytes.
@@ -385,7 +389,8 @@ fn short(draw: &mut Draw) -> Vec<u8> {
     bytes
 }
 
-/// A table of wide rows: sizes up to the largest sum, file starts up to the largest place.
+/// A table of wide rows: sizes up to the largest sum, file starts up to the largest place; often with
+/// other lines between.
 fn wide(draw: &mut Draw) -> Vec<u8> {
     let mut lines = vec![b"version=2".to_vec()];
     let mut left = (1u64 << 55) - 1;
@@ -406,14 +411,18 @@ fn wide(draw: &mut Draw) -> Vec<u8> {
         let line = extent(&signed(sectors.to_string(), draw), &signed(start.to_string(), draw), draw);
         lines.push(dress(&line, Dress::Plain, draw).into_bytes());
     }
+    for _ in 0..draw.below(4) {
+        let line = dress(&other_line(draw), Dress::Plain, draw).into_bytes();
+        lines.insert(draw.below(lines.len() as u64 + 1) as usize, line);
+    }
     join(&lines, draw)
 }
 
 /// So many extents at most: some more than are taken.
 pub const MOST_LINES: usize = LIMIT + 6;
 
-/// Many extents, now and then with other lines and a fault between the last ones. Every second list
-/// has no extent without access, so that a walk goes on.
+/// Many extents, now and then with other lines, a fault and a large extent between the last ones. Every
+/// second list has no extent without access, so that a walk goes on.
 fn long_list(draw: &mut Draw) -> Vec<u8> {
     let open = draw.once_in(2);
     let mut lines = vec![b"version=3".to_vec()];
@@ -425,11 +434,11 @@ fn long_list(draw: &mut Draw) -> Vec<u8> {
         }
         lines.push(dress(&line, Dress::Plain, draw).into_bytes());
     }
-    for _ in 0..draw.below(3) {
-        let line = if draw.once_in(2) {
-            fault(4 + draw.below(12), draw)
-        } else {
-            dress(&other_line(draw), Dress::Plain, draw).into_bytes()
+    for _ in 0..draw.below(4) {
+        let line = match draw.below(4) {
+            0 => fault(4 + draw.below(12), draw),
+            1 => large(draw),
+            _ => dress(&other_line(draw), Dress::Plain, draw).into_bytes(),
         };
         let from_end = draw.below(8.min(lines.len() as u64)) as usize;
         lines.insert(lines.len() - from_end, line);

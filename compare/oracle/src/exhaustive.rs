@@ -101,8 +101,7 @@ pub fn write_characters(out: &mut impl Write) -> io::Result<()> {
     Ok(())
 }
 
-/// Lines that are refused, each by another number: 4 to 15 with the line, 18 to 20 with the extent
-/// (19 only after another extent).
+/// Lines that are refused, each by another number: 4 to 15, and 18 to 20 (19 only after another extent).
 const REFUSED: [&[u8]; 15] = [
     b"\xff", b"RW x", b"RW 1", b"RW 1 SPARSE", b"RW 1 FLAT", b"RW 1 FLAT \"", b"RW 1 FLAT x \"\"",
     b"RW 1 FLAT \"\" x", b"version=x", b"parentFileNameHint=", b"ddb.geometry.heads=x", b"x=",
@@ -123,6 +122,47 @@ pub fn write_counts(out: &mut impl Write) -> io::Result<()> {
         }
     }
     Ok(())
+}
+
+/// Lines that say no extent, though some look as if they did, and the last as if it were several lines.
+const NO_EXTENTS: [&str; 6] =
+    ["", "# RW 1 ZERO", "CID=RW 1 ZERO", "RW ", "RWX 1 ZERO", "#\r\u{b}\u{c}\u{85}\u{2028}RW 1 ZERO"];
+
+/// Extents that are sound, or refused with 18, 19 (after another, or the one after it is) or 20.
+const EXTENTS: [&str; 4] = [
+    "NOACCESS 1", "RW 36028797018963968 ZERO", "RW 36028797018963967 ZERO",
+    "RW 1 FLAT \"\" 36028797018963968",
+];
+
+/// How many lines that say no extent stand before each of three extents, and after the last.
+pub const GAPS: [[usize; 4]; 4] = [[1, 2, 1, 0], [1, 0, 0, 0], [0, 1, 0, 0], [0, 0, 1, 1]];
+
+/// Three extents with other lines between, so that an extent's line does not follow from its number:
+/// each of the extents in each place, each of the other lines in the gaps; the version before them and
+/// no 0A at the end, or the version after them.
+pub fn write_apart(gaps: &[[usize; 4]], out: &mut impl Write) -> io::Result<()> {
+    for gaps in gaps {
+        for other in NO_EXTENTS {
+            for extent in EXTENTS {
+                for place in 0..3 {
+                    let text = apart(extent, place, other, gaps);
+                    write_case(format!("version=1\n{text}").into_bytes(), out)?;
+                    write_case(format!("{text}\nversion=1\n").into_bytes(), out)?;
+                }
+            }
+        }
+    }
+    Ok(())
+}
+
+/// Three extents, the given one in a place among them, and the other line so many times in the gaps.
+fn apart(extent: &str, place: usize, other: &str, gaps: &[usize; 4]) -> String {
+    let mut lines = vec![other; gaps[0]];
+    for (index, gap) in gaps[1..].iter().enumerate() {
+        lines.push(if index == place { extent } else { "RW 1 ZERO" });
+        lines.resize(lines.len() + gap, other);
+    }
+    lines.join("\n")
 }
 
 /// A descriptor with so many extents of one sector, of every kind that can be walked.

@@ -4,7 +4,7 @@ use crate::answer;
 use crate::cases::{Case, Query};
 use crate::descriptors::{self, BLANKS, MOST_LINES, NEAR_BLANKS};
 use crate::draw::Draw;
-use crate::exhaustive::{self, FAMILIES};
+use crate::exhaustive::{self, FAMILIES, GAPS};
 use crate::kinds;
 use crate::queries;
 use crate::vmdk::opened::LIMIT;
@@ -21,14 +21,16 @@ const EACH_LONG: u64 = 1;
 /// A descriptor above so many bytes is long.
 const SHORT: usize = 300;
 
-/// Write the fixed list: the marked cases of document 01, some numbers of extents, the short rows of
-/// tokens, every blank and near-blank, the edges of Table 3-7, then drawn cases.
+/// Write the fixed list: the marked cases of document 01, some numbers of extents, extents with other
+/// lines between, the short rows of tokens, every blank and near-blank, the edges of Table 3-7, then
+/// drawn cases.
 pub fn write(out: &mut impl Write) -> io::Result<()> {
     marked().iter().try_for_each(|case| case.write(out))?;
     for count in [128, 129, 257, 512, MOST_LINES] {
         let descriptor = exhaustive::extents(count);
         Case { descriptor, queries: exhaustive::last_rows(count) }.write(out)?;
     }
+    exhaustive::write_apart(&GAPS[..1], out)?;
     for family in &FAMILIES {
         exhaustive::write_family(family, if family.name == "lines" { 2 } else { 3 }, out)?;
     }

@@ -1,15 +1,18 @@
-//! The oracle's answers to the marked cases of document 01, as the document has them.
+//! The oracle's answers to the marked cases of document 01, as the document has them, and the lines of
+//! extents, counted by hand.
 
-use oracle::{answer, sample};
+use oracle::{answer, cases::Case, sample};
+
+/// The lines of the answer to a case.
+fn lines(case: &Case) -> Vec<String> {
+    let mut text = Vec::new();
+    answer::write(case, 0, &mut text).expect("writing to memory does not fail");
+    let text = String::from_utf8(text).expect("answers are text");
+    text.lines().map(str::to_owned).collect()
+}
 
 /// The lines of each marked case's answer.
 fn answers() -> Vec<Vec<String>> {
-    let lines = |case| {
-        let mut text = Vec::new();
-        answer::write(case, 0, &mut text).expect("writing to memory does not fail");
-        let text = String::from_utf8(text).expect("answers are text");
-        text.lines().map(str::to_owned).collect()
-    };
     sample::marked().iter().map(lines).collect()
 }
 
@@ -23,10 +26,10 @@ fn marked_cases() {
             &format!("v 1 0 0 0 0 {cid}"),
             "p 0 0 0 0 0",
             "t 4096 4 0 0 0",
-            &format!("F 0 0 2048 1 1024 {name}"),
-            "Z 1 2048 2048 0 0",
-            "N 2 2048 2560 0 0",
-            "Z 3 2560 4096 0 0",
+            &format!("F 4 0 2048 1 1024 {name}"),
+            "Z 5 2048 2048 0 0",
+            "N 6 2048 2560 0 0",
+            "Z 7 2560 4096 0 0",
             // K1 to K6
             &format!("r 100 3 0 1 1024 {name}"),
             &format!("r 1 3 0 1 3071 {name}"),
@@ -41,16 +44,16 @@ fn marked_cases() {
         &["c 0 0 0 0 0", "v 1 0 0 0 0", "p 0 0 0 0 0", "t 0 0 0 0 0"],
         &["c 0 1 17 0 0"],
         // K9, K10
-        &["c 0 1 18 0 0"],
+        &["c 0 1 18 2 0"],
         &[
             "c 0 1 0 0 0", "v 1 0 0 0 0", "p 0 0 0 0 0", "t 18446744073709551104 1 0 0 0",
-            "Z 0 0 18446744073709551104 1 0", "z 18446744073709551104 1 0 0 0",
+            "Z 2 0 18446744073709551104 1 0", "z 18446744073709551104 1 0 0 0",
         ],
-        &["c 0 1 19 1 0"],
+        &["c 0 1 19 3 0"],
         // K11, K12
         &[
             "c 0 1 0 0 0", "v 1 0 0 0 0", "p 0 0 0 0 0", "t 1024 1 0 0 0",
-            "F 0 0 1024 1 18446744073709551104 120", "r 1024 1 0 1 18446744073709551104 120", "x 0 1 22 0 0",
+            "F 2 0 1024 1 18446744073709551104 120", "r 1024 1 0 1 18446744073709551104 120", "x 0 1 22 0 0",
             "D 0 1024 0 1 18446744073709551104 120", "d 1024 1 1 0 0",
         ],
         &["c 0 1 10 2 0"],
@@ -66,6 +69,21 @@ fn limit_of_1024() {
     let last: Vec<&str> = answers[10..15].iter().map(|lines| lines[0].as_str()).collect();
     assert_eq!(
         last,
-        ["c 0 1 16 1026 0", "c 0 1 15 1026 0", "c 0 1 16 1026 0", "c 0 1 6 1026 0", "c 0 1 20 1 0"]
+        ["c 0 1 16 1026 0", "c 0 1 15 1026 0", "c 0 1 16 1026 0", "c 0 1 6 1026 0", "c 0 1 20 3 0"]
     );
+}
+
+#[test]
+fn lines_of_extents() {
+    let values = ["c 0 1 0 0 0", "v 1 0 0 0 0", "p 0 0 0 0 0", "t 1024 2 0 0 0"];
+    let rows = [&values[..], &["Z 3 0 512 1 0", "N 6 512 1024 0 0"]].concat();
+    for (text, expected) in [
+        ("RW 36028797018963968 ZERO\nversion=1", &["c 0 1 18 1 0"][..]),
+        ("\n# RW 1 ZERO\nversion=1\nRW 36028797018963968 ZERO\n", &["c 0 1 18 4 0"]),
+        ("RW 36028797018963967 ZERO\n\nversion=1\nRW \nRW 1 ZERO\nRW 1 ZERO", &["c 0 1 19 5 0"]),
+        ("version=1\nRW 1 ZERO\n#\r\u{85}\u{2028}\nRW 1 FLAT \"\" 36028797018963968", &["c 0 1 20 4 0"]),
+        ("CID=\n\nRW 1 ZERO\nRWX 1 ZERO\nversion=1\n\u{a0}NOACCESS\u{2003}1", &rows),
+    ] {
+        assert_eq!(lines(&Case { descriptor: text.into(), queries: vec![] }), expected);
+    }
 }

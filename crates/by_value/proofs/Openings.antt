@@ -12,7 +12,7 @@ use Rattle.lines.specs.declared.record.Verdict.the-variants.{Sound, Refused}
 use Rattle.lines.specs.declared.record.VmdkDesc.{VmdkDesc}
 use Rattle.descriptor.specs.Read.{readOf}
 use Rattle.descriptor.specs.Into.{readInto}
-use Rattle.descriptor.proofs.Intos.{into-desc, into-count, into-counted}
+use Rattle.descriptor.proofs.Intos.{into-desc, into-count, into-read}
 use Rattle.tables.specs.Build.{noTable, buildOf}
 use Rattle.tables.specs.Into.{buildInto}
 use Rattle.tables.specs.declared.table.Table.{Table}
@@ -38,5 +38,5 @@ pub opening-is : (t : List ℕ) → answeredOf (readOf t .verdict) (buildOf (rea
 unfolding openingOf
 opening-is t =
     let x = readInto t noRecord in
-    let same : buildOf x ≡ buildOf (readOf t .descriptor) = build-same x (readOf t .descriptor) (into-count t noRecord) (into-counted t noRecord) in
+    let same : buildOf x ≡ buildOf (readOf t .descriptor) = build-same x (readOf t .descriptor) (into-count t noRecord) (into-read t noRecord) in
     rw (built-is (readOf t .verdict) x (buildOf x .verdict) refl, same, into-desc t noRecord)

@@ -27,12 +27,12 @@ use denote.Triple.Statement.{Contract, Triple}
 use denote.Triple.Clauses.{lasts}
 use Rattle.lines.specs.Record.{most}
 use Rattle.lines.specs.declared.record.VmdkDesc.{VmdkDesc}
-use Rattle.lines.specs.declared.record.VmdkParsedExtent.{VmdkParsedExtent}
+use Rattle.lines.specs.declared.record.ReadExtent.{ReadExtent}
 use Rattle.lines.specs.declared.record.Record.{Record}
 use Rattle.lines.proofs.record.VmdkDesc as D
 use Rattle.lines.proofs.record.VmdkDesc.Laws as D′
-use Rattle.lines.proofs.record.VmdkParsedExtent as E
-use Rattle.lines.proofs.record.VmdkParsedExtent.Laws as E′
+use Rattle.lines.proofs.record.ReadExtent as E
+use Rattle.lines.proofs.record.ReadExtent.Laws as E′
 use Rattle.lines.proofs.record.Record as T
 use Rattle.lending.proofs.Held.{alive-one, one-alive, own-first, asks-held}
 use Rattle.lending.proofs.LentOn.{lends-on}
@@ -61,7 +61,7 @@ module _ {M : Type 1} (𝓤 : URA M) (H : Heap 𝓤) (A : Atoms 𝓤) (W : Given
     Leaves f vals z = ent 𝓤 (sep 𝓤 (sem 𝓤 H A (MutRef ℓ κ T.the-row .own (record { ptr = (b, o); name = γ; now = h }) (p ∷ []))) (A .lft κ q))
         (H .⇛ (f vals (λ r. H .⇛ (guard 𝓤 (r ≡ vunit) (sep 𝓤 (sem 𝓤 H A (MutRef ℓ κ T.the-row .own (record { ptr = (b, o); name = γ; now = z }) (p ∷ []))) (A .lft κ q))))))
 
-    module _ (known : Triple 𝓤 (C #put-extent) Put) (i : ℕ) (e : VmdkParsedExtent) (v : Val) (is : Is E.the-row e (v ∷ [])) (within : i < most) (fits : i < 2 ^ 64) where
+    module _ (known : Triple 𝓤 (C #put-extent) Put) (i : ℕ) (e : ReadExtent) (v : Val) (is : Is E.the-row e (v ∷ [])) (within : i < most) (fits : i < 2 ^ 64) where
       abbrev y : ℕ → GName → Put .Ghost
       y ν δ = (((ν ∷ [], tt), (fullShare, tt), tt, (x δ, (i, (e, tt))), (p ∷ [], (vint w64 i ∷ [], (v ∷ [], tt)))), tt)
 

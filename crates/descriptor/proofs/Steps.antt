@@ -24,7 +24,7 @@ use Rattle.text.specs.Find.{lineEnd, begins}
 use Rattle.text.proofs.Lines.{line-within, line-step}
 use Rattle.lines.specs.Line.{saidAt}
 use Rattle.lines.proofs.Lines.{said-is}
-use Rattle.lines.specs.Record.{most, mostBytes, noExtent, noDesc, descOf, refusal}
+use Rattle.lines.specs.Record.{most, mostBytes, atLine, noRead, noDesc, descOf, refusal}
 use Rattle.lines.specs.declared.line.Setting.{Setting}
 use Rattle.lines.specs.declared.line.Setting.the-variants.{Version, Cid, ParentCid, CreateType, Sectors as Is·Sectors, Heads, Cylinders}
 use Rattle.lines.specs.declared.line.Said.{Said}
@@ -34,6 +34,7 @@ use Rattle.lines.specs.declared.record.Refusal.{Refusal}
 use Rattle.lines.specs.declared.record.Verdict.{Verdict}
 use Rattle.lines.specs.declared.record.Verdict.the-variants.{Sound, Refused as Stopped}
 use Rattle.lines.specs.declared.record.VmdkDesc.{VmdkDesc}
+use Rattle.lines.specs.declared.record.ReadExtent.{ReadExtent}
 use Rattle.lines.specs.declared.record.VmdkParsedExtent.{VmdkParsedExtent}
 use Rattle.descriptor.specs.Read.{leastBytes, sparse, setOf}
 use Rattle.descriptor.specs.declared.stepping.Sizes.{Sizes}
@@ -74,16 +75,16 @@ pub ruleset sets = (set-version, set-cid, set-parent, set-type, set-sectors, set
 
 -- ---- the sizes
 -- Rules of `summed`
-module _ (i sum : ℕ) (size : ByteCount) where
-  pub summed-large : {v : Verdict} → size ≡ TooLarge → v ≡ refusal 18 i → sizesOf sum v ≡ sizedBy i sum size
+module _ (l sum : ℕ) (size : ByteCount) where
+  pub summed-large : {v : Verdict} → size ≡ TooLarge → v ≡ refusal 18 l → sizesOf sum v ≡ sizedBy l sum size
   summed-large k p = rw (k, p)
 
   module _ {b : Bytes} {n : ℕ} (k : size ≡ Count b) (q : n ≡ b .0) where
-    pub summed-over : {v : Verdict} → largest - sum < n → v ≡ refusal 19 i → sizesOf sum v ≡ sizedBy i sum size
+    pub summed-over : {v : Verdict} → largest - sum < n → v ≡ refusal 19 l → sizesOf sum v ≡ sizedBy l sum size
     summed-over o p = let g : largest < sum + n = omega arith in rw (k, ← q, lt-leb (sum + n) largest g, p)
 
     module _ (f : sum < 2 ^ 64) (o : n ≤ largest - sum) where
-      pub summed-more : sizesOf (sum + n) Sound ≡ sizedBy i sum size
+      pub summed-more : sizesOf (sum + n) Sound ≡ sizedBy l sum size
       summed-more = let g : sum + n ≤ largest = omega arith in rw (k, ← q, le-leb (sum + n) largest g)
 
       pub summed-fit : Fits w64 (sum + n)
@@ -92,12 +93,12 @@ module _ (i sum : ℕ) (size : ByteCount) where
 pub ruleset sums = (summed-large, summed-over, summed-more, summed-fit, needs)
 
 -- Rules of `with_size`
-module _ (z : Sizes) (i : ℕ) (s : Sectors) where
-  pub sized-stopped : {k : Refusal} → z .verdict ≡ Stopped k → z ≡ sizedOf z i s
+module _ (z : Sizes) (l : ℕ) (s : Sectors) where
+  pub sized-stopped : {k : Refusal} → z .verdict ≡ Stopped k → z ≡ sizedOf z l s
   unfolding sizedOf
   sized-stopped k = rw k
 
-  pub sized-sound : {c : ByteCount} {r : Sizes} → z .verdict ≡ Sound → c ≡ bytesOf s → r ≡ sizedBy i (z .sum) c → r ≡ sizedOf z i s
+  pub sized-sound : {c : ByteCount} {r : Sizes} → z .verdict ≡ Sound → c ≡ bytesOf s → r ≡ sizedBy l (z .sum) c → r ≡ sizedOf z l s
   unfolding sizedOf
   sized-sound k e p = p ∙ rw (k, e)
 
@@ -105,15 +106,15 @@ pub ruleset sizings = (sized-stopped, sized-sound, needs)
 
 -- ---- marks
 -- The rules of `ended`, `stopped` and `found`
-pub ended-is : {x : VmdkParsedExtent} {z : Sizes} (d : VmdkDesc) (n : ℕ) (v : Verdict) → x ≡ noExtent → z ≡ noSizes
+pub ended-is : {x : ReadExtent} {z : Sizes} (d : VmdkDesc) (n : ℕ) (v : Verdict) → x ≡ noRead → z ≡ noSizes
     → record { more = false; count = n; extent = x; desc = d; at = 0; line = 0; left = false; sizes = z; verdict = v } ≡ endedAt d n v
 ended-is d n v p q = rw (p, q)
 
 pub stopped-is : {d : VmdkDesc} {v : Verdict} {r : Mark} (n s : ℕ) → v ≡ refusal n s → d ≡ noDesc → r ≡ endedAt d 0 v → r ≡ stoppedAt n s
 stopped-is n s p q h = h ∙ rw (p, q)
 
-pub found-is : (x : VmdkParsedExtent) (d : VmdkDesc) (n at line : ℕ) (left : Bool) (z : Sizes) {y : Sizes} → y ≡ sizedOf z n (x .sectors)
-    → record { more = true; count = n; extent = x; desc = d; at = at; line = line; left = left; sizes = y; verdict = Sound } ≡ foundAt x d n at line left z
+pub found-is : (x : VmdkParsedExtent) (d : VmdkDesc) (n at line : ℕ) (left : Bool) (z : Sizes) {y : Sizes} → y ≡ sizedOf z line (x .sectors)
+    → record { more = true; count = n; extent = atLine line x; desc = d; at = at; line = line; left = left; sizes = y; verdict = Sound } ≡ foundAt x d n at line left z
 found-is x d n at line left z p = rw p
 
 pub ruleset standing = (ended-is, stopped-is, found-is, needs)

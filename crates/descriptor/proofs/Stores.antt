@@ -3,47 +3,47 @@
 use Prim.Native.Nat.{ℕ, suc, _+_, _-_, _≤_}
 use native.Mathlib.Omega.{arith}
 use mathlib.Core.List.{List, [], _∷_, _++_, append-nil, append-assoc}
-use mathlib.Core.Path.{_≡_, refl, sym, ap, _∙_}
+use mathlib.Core.Path.{_≡_, sym, ap, _∙_}
 use lib.ListN.{length, take, length-append}
 use lib.Seq.{take-nil}
 use lib.Dec.{ltb}
 use borrow.Author.Tests.{ltb-true, ltb-false}
 use Rattle.text.proofs.Flat.{by-test}
 use Rattle.lines.specs.Line.{lineOf}
-use Rattle.lines.specs.Record.{most}
+use Rattle.lines.specs.Record.{most, atLine}
 use Rattle.lines.specs.declared.line.Said.{Said}
 use Rattle.lines.specs.declared.line.Said.the-variants.{Nothing, Extent, Set, Refused}
-use Rattle.lines.specs.declared.record.VmdkParsedExtent.{VmdkParsedExtent}
+use Rattle.lines.specs.declared.record.ReadExtent.{ReadExtent}
 use Rattle.descriptor.specs.Into.{thenSaid, saidBefore}
 use Rattle.descriptor.specs.inside.Storing.{byStore, storeLines}
 
 -- the extents so far, and of the others as many as there is room for
-abbrev asRoom : List VmdkParsedExtent → List VmdkParsedExtent → List VmdkParsedExtent
+abbrev asRoom : List ReadExtent → List ReadExtent → List ReadExtent
 asRoom xs ys = xs ++ take (most - length xs) ys
 
-no-more : (xs : List VmdkParsedExtent) → xs ≡ asRoom xs []
-no-more xs = sym (ap (λ (ys : List VmdkParsedExtent). xs ++ ys) (take-nil {A = VmdkParsedExtent} (most - length xs)) ∙ append-nil xs)
+no-more : (xs : List ReadExtent) → xs ≡ asRoom xs []
+no-more xs = sym (ap (λ (ys : List ReadExtent). xs ++ ys) (take-nil {A = ReadExtent} (most - length xs)) ∙ append-nil xs)
 
-by-said : (s : Said) (xs rest : List VmdkParsedExtent) (go : List VmdkParsedExtent → List VmdkParsedExtent) → ((ys : List VmdkParsedExtent) → length ys ≤ most → go ys ≡ asRoom ys rest) → length xs ≤ most → byStore s xs go ≡ asRoom xs (thenSaid s rest)
-by-said Nothing xs rest go h l = h xs l
-by-said (Set s) xs rest go h l = h xs l
-by-said (Refused n) xs rest go h l = no-more xs
-by-said (Extent x) xs rest go h l =
+by-said : (k : ℕ) (s : Said) (xs rest : List ReadExtent) (go : List ReadExtent → List ReadExtent) → ((ys : List ReadExtent) → length ys ≤ most → go ys ≡ asRoom ys rest) → length xs ≤ most → byStore k s xs go ≡ asRoom xs (thenSaid k s rest)
+by-said k Nothing xs rest go h l = h xs l
+by-said k (Set s) xs rest go h l = h xs l
+by-said k (Refused n) xs rest go h l = no-more xs
+by-said k (Extent x) xs rest go h l =
     by-test (ltb (length xs) most)
-    (λ e. let ys = xs ++ (x ∷ []) in
+    (λ e. let ys = xs ++ (atLine k x ∷ []) in
     let room = ltb-true (length xs) most e in
-    let q : suc (most - length ys) ≡ most - length xs = omega (arith, length-append xs (x ∷ []), room) in
-    rw e (h ys (omega (arith, length-append xs (x ∷ []), room)) ∙ append-assoc xs (x ∷ []) (take (most - length ys) rest)
-    ∙ ap (λ (k : ℕ). xs ++ take k (x ∷ rest)) q))
+    let q : suc (most - length ys) ≡ most - length xs = omega (arith, length-append xs (atLine k x ∷ []), room) in
+    rw e (h ys (omega (arith, length-append xs (atLine k x ∷ []), room)) ∙ append-assoc xs (atLine k x ∷ []) (take (most - length ys) rest)
+    ∙ ap (λ (j : ℕ). xs ++ take j (atLine k x ∷ rest)) q))
     (λ e. let q : 0 ≡ most - length xs = omega (arith, ltb-false (length xs) most e) in
-    rw e (sym (append-nil xs) ∙ ap (λ (k : ℕ). xs ++ take k (x ∷ rest)) q))
+    rw e (sym (append-nil xs) ∙ ap (λ (j : ℕ). xs ++ take j (atLine k x ∷ rest)) q))
 
 -- what is stored after the extents so far: they, and of what the lines say as many as there is room for
-pub store-said : (ls : List (List ℕ)) (p : ℕ) (xs : List VmdkParsedExtent) → length xs ≤ most → storeLines p xs ls ≡ xs ++ take (most - length xs) (saidBefore p ls)
+pub store-said : (ls : List (List ℕ)) (k p : ℕ) (xs : List ReadExtent) → length xs ≤ most → storeLines k p xs ls ≡ xs ++ take (most - length xs) (saidBefore k p ls)
 unfolding storeLines saidBefore
-store-said [] p xs l = no-more xs
-store-said (m ∷ ls) p xs l = by-said (lineOf p m) xs (saidBefore (p + length m + 1) ls) (λ ys. storeLines (p + length m + 1) ys ls) (λ ys. store-said ls (p + length m + 1) ys) l
+store-said [] k p xs l = no-more xs
+store-said (m ∷ ls) k p xs l = by-said k (lineOf p m) xs (saidBefore (suc k) (p + length m + 1) ls) (λ ys. storeLines (suc k) (p + length m + 1) ys ls) (λ ys. store-said ls (suc k) (p + length m + 1) ys) l
 
 -- and from the first line on
-pub store-all : (ls : List (List ℕ)) (p : ℕ) → storeLines p [] ls ≡ take most (saidBefore p ls)
-store-all ls p = store-said ls p [] (omega arith)
+pub store-all : (ls : List (List ℕ)) (k p : ℕ) → storeLines k p [] ls ≡ take most (saidBefore k p ls)
+store-all ls k p = store-said ls k p [] (omega arith)

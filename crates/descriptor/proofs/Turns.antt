@@ -6,8 +6,8 @@ use native.Mathlib.Numerals.{add-one}
 use mathlib.Core.List.{List, [], _∷_, _++_, append-nil, append-assoc}
 use mathlib.Core.Bool.{Bool, true, false}
 use mathlib.Core.Path.{_≡_, refl, sym, ap, _∙_, subst}
-use lib.ListN.{length, take, drop, set, length-append, length-take, take-append-drop}
-use lib.Seq.{drop-set-lt, take-suc-set}
+use lib.ListN.{length, take, drop, set, length-append, length-take}
+use lib.Seq.{take-suc-set}
 use lib.Dec.{leb, ltb}
 use borrow.Author.Tests.{ltb-true, ltb-false}
 use Rattle.text.specs.Ranges.{pick, within}
@@ -19,14 +19,16 @@ use Rattle.text.specs.Lines.{linesOf}
 use Rattle.text.specs.inside.Places.{linesAt}
 use Rattle.text.specs.Find.{lineEnd, begins}
 use Rattle.lines.specs.Line.{lineOf}
-use Rattle.lines.specs.Record.{most, mostBytes, noDesc, over}
+use Rattle.lines.specs.Record.{most, mostBytes, atLine, noDesc, over}
 use Rattle.lines.specs.declared.line.Said.{Said}
 use Rattle.lines.specs.declared.line.Said.the-variants.{Nothing, Extent, Set, Refused}
 use Rattle.lines.specs.declared.record.Verdict.{Verdict}
 use Rattle.lines.specs.declared.record.Verdict.the-variants.{Sound, Refused as Stopped}
 use Rattle.lines.specs.declared.record.VmdkDesc.{VmdkDesc}
+use Rattle.lines.specs.declared.record.ReadExtent.{ReadExtent}
 use Rattle.lines.specs.declared.record.VmdkParsedExtent.{VmdkParsedExtent}
 use Rattle.lines.specs.declared.record.Record.{Record}
+use Rattle.lines.proofs.Overs.{over-held, over-set}
 use Rattle.descriptor.specs.Read.{leastBytes, sparse, answer, refusedRead, setOf, summed, sizesFrom, checked, byLine, readLines, readOf}
 use Rattle.descriptor.specs.declared.read.Read.{Read}
 use Rattle.descriptor.specs.declared.stepping.Sizes.{Sizes}
@@ -44,46 +46,42 @@ thenBy Sound w = w
 thenBy (Stopped r) w = Stopped r
 
 -- the sizes of some extents decide, with the extents after them
-abbrev Sums : List VmdkParsedExtent → Sizes → Type 0
-Sums xs z = (ys : List VmdkParsedExtent) → sizesFrom 0 0 (xs ++ ys) ≡ thenBy (z .verdict) (sizesFrom (length xs) (z .sum) ys)
+abbrev Sums : List ReadExtent → Sizes → Type 0
+Sums xs z = (ys : List ReadExtent) → sizesFrom 0 (xs ++ ys) ≡ thenBy (z .verdict) (sizesFrom (z .sum) ys)
 
 sized-then : (v : Verdict) (i sum : ℕ) (c : ByteCount) (go : ℕ → Verdict) → thenBy v (summed i sum c go) ≡ thenBy (sizedAfter v i sum c .verdict) (go (sizedAfter v i sum c .sum))
 sized-then (Stopped r) i sum c go = refl
 sized-then Sound i sum TooLarge go = refl
 sized-then Sound i sum (Count b) go = by-test (leb (sum + b .0) largest) (λ e. rw e) (λ e. rw e)
 
-sums-more : (xs : List VmdkParsedExtent) (z : Sizes) (x : VmdkParsedExtent) → Sums xs z → Sums (xs ++ (x ∷ [])) (sizedOf z (length xs) (x .sectors))
+sums-more : (xs : List ReadExtent) (z : Sizes) (k : ℕ) (x : VmdkParsedExtent) → Sums xs z → Sums (xs ++ (atLine k x ∷ [])) (sizedOf z k (x .sectors))
 unfolding sizedOf sizesFrom
-sums-more xs z x h ys =
-    let n = length xs in
-    let y = sizedAfter (z .verdict) n (z .sum) (bytesOf (x .sectors)) in
-    let l : length (xs ++ (x ∷ [])) ≡ suc n = length-append xs (x ∷ []) ∙ add-one n in
-    ap (sizesFrom 0 0) (append-assoc xs (x ∷ []) ys) ∙ h (x ∷ ys) ∙ sized-then (z .verdict) n (z .sum) (bytesOf (x .sectors)) (λ s. sizesFrom (suc n) s ys)
-    ∙ ap (λ (j : ℕ). thenBy (y .verdict) (sizesFrom j (y .sum) ys)) (sym l)
+sums-more xs z k x h ys =
+    ap (sizesFrom 0) (append-assoc xs (atLine k x ∷ []) ys) ∙ h (atLine k x ∷ ys) ∙ sized-then (z .verdict) k (z .sum) (bytesOf (x .sectors)) (λ s. sizesFrom s ys)
 
 then-sound : (v : Verdict) → thenBy v Sound ≡ v
 then-sound Sound = refl
 then-sound (Stopped r) = refl
 
-sums-all : (xs : List VmdkParsedExtent) (z : Sizes) → Sums xs z → sizesFrom 0 0 xs ≡ z .verdict
+sums-all : (xs : List ReadExtent) (z : Sizes) → Sums xs z → sizesFrom 0 xs ≡ z .verdict
 unfolding sizesFrom
-sums-all xs z h = ap (sizesFrom 0 0) (sym (append-nil xs)) ∙ h [] ∙ then-sound (z .verdict)
+sums-all xs z h = ap (sizesFrom 0) (sym (append-nil xs)) ∙ h [] ∙ then-sound (z .verdict)
 
 -- ---- what is answered and left
 abbrev pub Ending : Type 0
 Ending = Verdict × Record
 
 -- by what is read and what is stored
-abbrev pub leaves : Read → List VmdkParsedExtent → Record → Ending
+abbrev pub leaves : Read → List ReadExtent → Record → Ending
 leaves r xs z = (r .verdict, record { desc = r .descriptor .desc; count = r .descriptor .count; extents = over xs (z .extents) })
 
 -- the extents so far, with the one that is to be stored
-abbrev soFar : Mark → Record → List VmdkParsedExtent
+abbrev soFar : Mark → Record → List ReadExtent
 soFar m z = take (m .count) (z .extents) ++ (m .extent ∷ [])
 
 -- from an extent on
 unfoldable pub goesOn : List ℕ → Mark → Record → Ending
-goesOn t m z = leaves (readLines (m .line + 1) (m .at) (m .desc) (soFar m z) (leftLines t (m .left) (m .at))) (storeLines (m .at) (soFar m z) (leftLines t (m .left) (m .at))) z
+goesOn t m z = leaves (readLines (m .line + 1) (m .at) (m .desc) (soFar m z) (leftLines t (m .left) (m .at))) (storeLines (m .line + 1) (m .at) (soFar m z) (leftLines t (m .left) (m .at))) z
 
 -- from a mark on
 unfoldable pub endOf : List ℕ → Mark → Record → Ending
@@ -98,11 +96,6 @@ pub record Right (t : List ℕ) (z : Record) (m : Mark) (all : Ending) : Type 0 
 none : {C : Type 0} → false ≡ true → C
 none e = let z : _≡_ {A = ℕ} 0 1 = cc in absurd (omega arith)
 
--- what is held already is written over by itself
-over-held : (xs zs : List VmdkParsedExtent) (n : ℕ) → take n zs ≡ xs → length xs ≡ n → over xs zs ≡ zs
-unfolding over
-over-held xs zs n h l = rw (l, ← h) (take-append-drop n zs)
-
 left-on : (t : List ℕ) (left : Bool) (at : ℕ) → left ≡ true → leftLines t left at ≡ linesAt t at
 unfolding leftLines
 left-on t left at m = rw m
@@ -112,7 +105,7 @@ unfolding leftLines
 left-off t left at m = rw m
 
 -- the record z holds the extents xs in its first n places
-module _ (t : List ℕ) (z : Record) (xs : List VmdkParsedExtent) (n : ℕ) (held : take n (z .extents) ≡ xs) (long : length xs ≡ n) where
+module _ (t : List ℕ) (z : Record) (xs : List ReadExtent) (n : ℕ) (held : take n (z .extents) ≡ xs) (long : length xs ≡ n) where
   stopped-right : (a s : ℕ) → Right t z (stoppedAt a s) (leaves (refusedRead a s) xs z)
   unfolding endOf
   stopped-right a s = record { ends = rw (over-held xs (z .extents) n held long); ready = λ e. none e; sums = λ e. none e }
@@ -132,8 +125,8 @@ module _ (t : List ℕ) (z : Record) (xs : List VmdkParsedExtent) (n : ℕ) (hel
 
     -- a line, with what is known of the lines after it
     said-right : (k p : ℕ) (d : VmdkDesc) (ls : List (List ℕ)) (s : Said) → ls ≡ leftLines t (someLine ls) p → (someLine ls ≡ true → p ≤ length t) → k ≤ p
-        → ((d′ : VmdkDesc) → Right t z (markLines (suc k) p d′ n y ls) (leaves (readLines (suc k) p d′ xs ls) (storeLines p xs ls) z))
-        → Right t z (byMark k s d n p (someLine ls) y (λ d. markLines (suc k) p d n y ls)) (leaves (byLine k s d xs (λ d xs. readLines (suc k) p d xs ls)) (byStore s xs (λ xs. storeLines p xs ls)) z)
+        → ((d′ : VmdkDesc) → Right t z (markLines (suc k) p d′ n y ls) (leaves (readLines (suc k) p d′ xs ls) (storeLines (suc k) p xs ls) z))
+        → Right t z (byMark k s d n p (someLine ls) y (λ d. markLines (suc k) p d n y ls)) (leaves (byLine k s d xs (λ d xs. readLines (suc k) p d xs ls)) (byStore k s xs (λ xs. storeLines (suc k) p xs ls)) z)
     unfolding endOf goesOn
     said-right k p d ls Nothing q b c rest = rest d
     said-right k p d ls (Set s) q b c rest = rest (setOf d s)
@@ -143,12 +136,12 @@ module _ (t : List ℕ) (z : Record) (xs : List VmdkParsedExtent) (n : ℕ) (hel
         (λ e. rw (long, e) (record {
           ends = rw (held, ← q, add-one k);
           ready = λ _. ((small, (b, c)), ltb-true n most e);
-          sums = λ _. rw (held, ← long) (sums-more xs y x h);
+          sums = λ _. rw held (sums-more xs y k x h);
         }))
         (λ e. rw (long, e) (stopped-right 16 k))
 
     lines-right : (ls : List (List ℕ)) (k p : ℕ) (d : VmdkDesc) (left : Bool) → ls ≡ leftLines t left p → (left ≡ true → p ≤ length t) → k ≤ p + 1
-        → Right t z (markLines k p d n y ls) (leaves (readLines k p d xs ls) (storeLines p xs ls) z)
+        → Right t z (markLines k p d n y ls) (leaves (readLines k p d xs ls) (storeLines k p xs ls) z)
     unfolding markLines readLines storeLines
     lines-right [] k p d left q b c = checked-right d
     lines-right (l ∷ ls) k p d left q b c =
@@ -164,24 +157,20 @@ module _ (t : List ℕ) (z : Record) (xs : List VmdkParsedExtent) (n : ℕ) (hel
         (λ m. let whole : l ∷ ls ≡ [] = q ∙ left-off t left p m in let w : _≡_ {A = ℕ} 0 1 = cc in absurd (omega arith))
 
 -- ---- the loop
-by-longer : (s : Said) (xs : List VmdkParsedExtent) (go : List VmdkParsedExtent → List VmdkParsedExtent) → ((ys : List VmdkParsedExtent) → length ys ≤ length (go ys)) → length xs ≤ length (byStore s xs go)
-by-longer Nothing xs go h = h xs
-by-longer (Set s) xs go h = h xs
-by-longer (Refused n) xs go h = omega arith
-by-longer (Extent x) xs go h =
+by-longer : (k : ℕ) (s : Said) (xs : List ReadExtent) (go : List ReadExtent → List ReadExtent) → ((ys : List ReadExtent) → length ys ≤ length (go ys)) → length xs ≤ length (byStore k s xs go)
+by-longer k Nothing xs go h = h xs
+by-longer k (Set s) xs go h = h xs
+by-longer k (Refused n) xs go h = omega arith
+by-longer k (Extent x) xs go h =
     by-test (ltb (length xs) most)
-    (λ e. rw e (omega (arith, length-append xs (x ∷ []), h (xs ++ (x ∷ [])))))
+    (λ e. rw e (omega (arith, length-append xs (atLine k x ∷ []), h (xs ++ (atLine k x ∷ [])))))
     (λ e. rw e (omega arith))
 
 -- nothing that is stored is lost
-store-longer : (ls : List (List ℕ)) (p : ℕ) (xs : List VmdkParsedExtent) → length xs ≤ length (storeLines p xs ls)
+store-longer : (ls : List (List ℕ)) (k p : ℕ) (xs : List ReadExtent) → length xs ≤ length (storeLines k p xs ls)
 unfolding storeLines
-store-longer [] p xs = omega arith
-store-longer (l ∷ ls) p xs = by-longer (lineOf p l) xs (λ ys. storeLines (p + length l + 1) ys ls) (λ ys. store-longer ls (p + length l + 1) ys)
-
-over-set : (ys zs : List VmdkParsedExtent) (i : ℕ) (x : VmdkParsedExtent) → i < length ys → over ys (set zs i x) ≡ over ys zs
-unfolding over
-over-set ys zs i x h = rw (drop-set-lt (length ys) zs i x h)
+store-longer [] k p xs = omega arith
+store-longer (l ∷ ls) k p xs = by-longer k (lineOf p l) xs (λ ys. storeLines (suc k) (p + length l + 1) ys ls) (λ ys. store-longer ls (suc k) (p + length l + 1) ys)
 
 -- before the first extent
 pub begin-right : (t : List ℕ) (z : Record) → Right t z (beginOf t) (leaves (readOf t) (storedOf t) z)
@@ -193,7 +182,7 @@ begin-right t z =
     (λ f. rw f (stopped-right t z [] 0 refl refl 2 0))
     (λ f. rw f (by-test (begins t sparse)
     (λ g. rw g (stopped-right t z [] 0 refl refl 3 0))
-    (λ g. rw (g, ← store-all (linesOf t) 0) (lines-right t z [] 0 refl refl (ltb-false mostBytes (length t) f) noSizes (λ ys. refl) (linesOf t) 1 0 noDesc true refl (λ _. omega arith) (omega arith)))))))
+    (λ g. rw (g, ← store-all (linesOf t) 1 0) (lines-right t z [] 0 refl refl (ltb-false mostBytes (length t) f) noSizes (λ ys. refl) (linesOf t) 1 0 noDesc true refl (λ _. omega arith) (omega arith)))))))
 
 -- a turn: the extent is stored, and reading goes on to the next
 pub turn-right : (t : List ℕ) (z : Record) (m : Mark) (all : Ending) → length (z .extents) ≡ most → m .more ≡ true → Right t z m all → Right t (stored z (m .count) (m .extent)) (nextOf t m) all
@@ -208,8 +197,8 @@ turn-right t z m all wide more r =
     let held : take (i + 1) (set (z .extents) i x) ≡ xs = ap (λ (j : ℕ). take j (set (z .extents) i x)) (add-one i) ∙ take-suc-set (z .extents) i x in-row in
     let short : length (take i (z .extents)) ≡ i = length-take i (z .extents) ∙ omega (arith, in-row) in
     let long : length xs ≡ i + 1 = length-append (take i (z .extents)) (x ∷ []) ∙ ap (λ (j : ℕ). j + 1) short in
-    let all-is : all ≡ leaves (readLines (m .line + 1) (m .at) (m .desc) xs ls) (storeLines (m .at) xs ls) z = sym (r .ends) ∙ rw more in
-    let same : over (storeLines (m .at) xs ls) (set (z .extents) i x) ≡ over (storeLines (m .at) xs ls) (z .extents) = over-set (storeLines (m .at) xs ls) (z .extents) i x (omega (arith, long, store-longer ls (m .at) xs)) in
+    let all-is : all ≡ leaves (readLines (m .line + 1) (m .at) (m .desc) xs ls) (storeLines (m .line + 1) (m .at) xs ls) z = sym (r .ends) ∙ rw more in
+    let same : over (storeLines (m .line + 1) (m .at) xs ls) (set (z .extents) i x) ≡ over (storeLines (m .line + 1) (m .at) xs ls) (z .extents) = over-set (storeLines (m .line + 1) (m .at) xs ls) (z .extents) i x (omega (arith, long, store-longer ls (m .line + 1) (m .at) xs)) in
     rw (all-is, ← same)
     (lines-right t (stored z i x) xs (i + 1) held long (k .0 .0) (m .sizes) (r .sums more) ls (m .line + 1) (m .at) (m .desc) (m .left) refl (k .0 .1 .0) (omega (arith, k .0 .1 .1)))
 

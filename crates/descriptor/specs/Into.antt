@@ -1,33 +1,33 @@
 -- Reading into a record that the caller lends: what is left there, whatever it held before.
 -- A refusal leaves count 0 and start values, in the first places what was stored before it, and every other place as it was. Where nothing
 -- is refused, the first `count` places are the answer, and the others are as they were.
-use Prim.Native.Nat.{ℕ, _+_}
+use Prim.Native.Nat.{ℕ, suc, _+_}
 use mathlib.Core.List.{List, [], _∷_}
 use lib.ListN.{length, take}
 use Rattle.text.specs.Lines.{linesOf}
-use Rattle.lines.specs.Record.{most, over}
+use Rattle.lines.specs.Record.{most, atLine, over}
 use Rattle.lines.specs.Line.{lineOf}
 use Rattle.lines.specs.declared.line.Said.{Said}
 use Rattle.lines.specs.declared.line.Said.the-variants.{Nothing, Extent, Set, Refused}
-use Rattle.lines.specs.declared.record.VmdkParsedExtent.{VmdkParsedExtent}
+use Rattle.lines.specs.declared.record.ReadExtent.{ReadExtent}
 use Rattle.lines.specs.declared.record.Record.{Record}
 use Rattle.descriptor.specs.Read.{beforeLines, readOf}
 
--- what a line says, before what the lines after it say: nothing is stored from a refused line on
-abbrev pub thenSaid : Said → List VmdkParsedExtent → List VmdkParsedExtent
-thenSaid Nothing rest = rest
-thenSaid (Set s) rest = rest
-thenSaid (Extent x) rest = x ∷ rest
-thenSaid (Refused n) rest = []
+-- what line k says, before what the lines after it say: nothing is stored from a refused line on
+abbrev pub thenSaid : ℕ → Said → List ReadExtent → List ReadExtent
+thenSaid k Nothing rest = rest
+thenSaid k (Set s) rest = rest
+thenSaid k (Extent x) rest = atLine k x ∷ rest
+thenSaid k (Refused n) rest = []
 
--- the extents that the lines say, in order, up to the first refused line; the first line lies at the place p of the descriptor
-unfoldable pub saidBefore : ℕ → List (List ℕ) → List VmdkParsedExtent
-saidBefore p [] = []
-saidBefore p (l ∷ ls) = thenSaid (lineOf p l) (saidBefore (p + length l + 1) ls)
+-- the extents that the lines from number k on say, in order, up to the first refused line; the first line lies at the place p of the descriptor
+unfoldable pub saidBefore : ℕ → ℕ → List (List ℕ) → List ReadExtent
+saidBefore k p [] = []
+saidBefore k p (l ∷ ls) = thenSaid k (lineOf p l) (saidBefore (suc k) (p + length l + 1) ls)
 
 -- what reading stores: the extents that the lines say up to the first refused one, at most `most` of them; nothing where no line is read
-unfoldable pub storedOf : List ℕ → List VmdkParsedExtent
-storedOf t = beforeLines t (λ n. []) (take most (saidBefore 0 (linesOf t)))
+unfoldable pub storedOf : List ℕ → List ReadExtent
+storedOf t = beforeLines t (λ n. []) (take most (saidBefore 1 0 (linesOf t)))
 
 -- the record after reading: values and count as they are read (start values and 0 where the descriptor is refused), in the first places
 -- what was stored, and every other place as it was

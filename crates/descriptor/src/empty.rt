@@ -1,5 +1,6 @@
 // The empty record: start values, and no extent in any place.
 use lines::record::MOST;
+use lines::record::ReadExtent;
 use lines::record::Record;
 use lines::record::Text;
 use lines::record::VmdkDesc;
@@ -8,7 +9,7 @@ use lines::record::VmdkParsedStorage;
 use text::sector::Sectors;
 ghost use mathlib.Core.Path.{_≡_};
 ghost use mathlib.Core.List.{[]};
-ghost use Rattle.lines.specs.Record.{noDesc, noExtent, filled, noRecord};
+ghost use Rattle.lines.specs.Record.{noDesc, noExtent, noRead, filled, noRecord};
 
 // The start values.
 pub(crate) fn no_desc() -> VmdkDesc
@@ -30,7 +31,7 @@ pub(crate) fn no_desc() -> VmdkDesc
 }
 
 // No access and zeros.
-pub(crate) fn no_extent() -> VmdkParsedExtent
+fn no_extent() -> VmdkParsedExtent
     ensures { λ r. ⌜ r ≡ noExtent ⌝ }
 {
     VmdkParsedExtent {
@@ -39,11 +40,21 @@ pub(crate) fn no_extent() -> VmdkParsedExtent
     }
 }
 
-// No extent in any place.
-fn no_extents() -> [VmdkParsedExtent; MOST]
-    ensures { λ r. ⌜ r ≡ filled noExtent [] ⌝ }
+// No access and zeros, of no line.
+pub(crate) fn no_read() -> ReadExtent
+    ensures { λ r. ⌜ r ≡ noRead ⌝ }
 {
-    [no_extent(); MOST]
+    ReadExtent {
+        line: 0,
+        extent: no_extent(),
+    }
+}
+
+// No extent in any place.
+fn no_extents() -> [ReadExtent; MOST]
+    ensures { λ r. ⌜ r ≡ filled noRead [] ⌝ }
+{
+    [no_read(); MOST]
 }
 
 // The empty record, to lend.

@@ -4,6 +4,7 @@ use lines::line::Said;
 use lines::line::Setting;
 use lines::line::parse_descriptor_line;
 use lines::record::MOST;
+use lines::record::ReadExtent;
 use lines::record::Record;
 use lines::record::Refusal;
 use lines::record::Verdict;
@@ -31,8 +32,8 @@ pub(crate) struct Mark {
     pub more: bool,
     // How many extents are stored
     pub count: usize,
-    // The extent to store
-    pub extent: VmdkParsedExtent,
+    // The extent to store, with its line
+    pub extent: ReadExtent,
     // The values so far
     pub desc: VmdkDesc,
     // The place of the next line
@@ -98,19 +99,19 @@ fn no_sizes() -> Sizes
     Sizes { sum: 0, verdict }
 }
 
-// The running sum, with the size of extent i: within 2^64-1.
-fn summed(i: usize, sum: u64, size: ByteCount) -> Sizes
-    ensures { λ r. ⌜ r ≡ sizedBy i sum size ⌝ }
+// The running sum, with the size of a line's extent: within 2^64-1.
+fn summed(line: usize, sum: u64, size: ByteCount) -> Sizes
+    ensures { λ r. ⌜ r ≡ sizedBy line sum size ⌝ }
 {
     match size {
         ByteCount::TooLarge => {
-            let verdict = refuse(18, i);
+            let verdict = refuse(18, line);
             Sizes { sum, verdict }
         }
         ByteCount::Count(b) => {
             let n = b.offset();
             if u64::MAX - sum < n {
-                let verdict = refuse(19, i);
+                let verdict = refuse(19, line);
                 return Sizes { sum, verdict };
             }
             let verdict = Verdict::Sound;
@@ -122,16 +123,16 @@ fn summed(i: usize, sum: u64, size: ByteCount) -> Sizes
     }
 }
 
-// The sizes with one more, that of extent i: sectors in bytes, then the running sum. The first refusal stays.
-fn with_size(sizes: Sizes, i: usize, s: Sectors) -> Sizes
-    ensures { λ r. ⌜ r ≡ sizedOf sizes i s ⌝ }
+// The sizes with one more, that of a line's extent: sectors in bytes, then the running sum. The first refusal stays.
+fn with_size(sizes: Sizes, line: usize, s: Sectors) -> Sizes
+    ensures { λ r. ⌜ r ≡ sizedOf sizes line s ⌝ }
 {
     let so_far = sizes.verdict;
     match so_far {
         Verdict::Refused(r) => sizes,
         Verdict::Sound => {
             let size = s.bytes();
-            summed(i, sizes.sum, size)
+            summed(line, sizes.sum, size)
         }
     }
 }
@@ -143,7 +144,7 @@ fn ended(desc: VmdkDesc, count: usize, verdict: Verdict) -> Mark
     Mark {
         more: false,
         count,
-        extent: empty::no_extent(),
+        extent: empty::no_read(),
         desc,
         at: 0,
         line: 0,
@@ -182,7 +183,7 @@ fn finish(desc: VmdkDesc, count: usize, sizes: Sizes) -> Mark
     }
 }
 
-// An extent that is to be stored, after so many of them; the next line, if there is one, lies at a place.
+// The extent of a line, which is to be stored after so many of them; the next line, if there is one, lies at a place.
 fn found(
     x: VmdkParsedExtent,
     desc: VmdkDesc,
@@ -199,12 +200,12 @@ fn found(
     Mark {
         more: true,
         count,
-        extent: x,
+        extent: ReadExtent { line, extent: x },
         desc,
         at,
         line,
         left,
-        sizes: with_size(sizes, count, s),
+        sizes: with_size(sizes, line, s),
         verdict,
     }
 }
@@ -282,7 +283,7 @@ pub(crate) fn verdict_of(m: Mark) -> Verdict
 }
 
 // Stores one extent. By hand.
-pub(crate) fn put_extent(into: &mut Record, at: usize, x: VmdkParsedExtent)
+pub(crate) fn put_extent(into: &mut Record, at: usize, x: ReadExtent)
     requires { ⌜ at < most ⌝ }
     ensures { λ _. ⌜ now (into .exit) ≡ stored (now (into .entry)) at x ⌝ }
 {

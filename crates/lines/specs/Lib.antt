@@ -1,3 +1,4 @@
+pub mod Alike
 pub mod Record
 pub mod Kept
 pub mod Extent

@@ -1,10 +1,11 @@
--- What a record holds: at most 1,024 extents. Places past the count are no access and zeros in a record that was empty before it was read into; an empty text is place 0, length 0.
+-- What a record holds: at most 1,024 extents. Places past the count are no access and zeros, of line 0, in a record that was empty before it was read into; an empty text is place 0, length 0.
 use Prim.Native.Nat.{ℕ, _-_}
-use mathlib.Core.List.{List, [], _++_}
+use mathlib.Core.List.{List, [], _++_, map}
 use lib.ListN.{length, take, drop, replicate}
 use Rattle.lines.specs.declared.record.Text.{Text}
 use Rattle.lines.specs.declared.record.VmdkParsedExtent.{VmdkParsedExtent}
 use Rattle.lines.specs.declared.record.VmdkParsedStorage.the-variants.{NoAccess}
+use Rattle.lines.specs.declared.record.ReadExtent.{ReadExtent}
 use Rattle.lines.specs.declared.record.VmdkDesc.{VmdkDesc}
 use Rattle.lines.specs.declared.record.Record.{Record}
 use Rattle.lines.specs.declared.record.Verdict.{Verdict}
@@ -26,6 +27,14 @@ noText = record { place = 0; length = 0 }
 abbrev pub noExtent : VmdkParsedExtent
 noExtent = record { sectors = record { 0 = 0 }; storage = NoAccess }
 
+-- what line k says, with the line
+abbrev pub atLine : ℕ → VmdkParsedExtent → ReadExtent
+atLine k x = record { line = k; extent = x }
+
+-- no access and zeros, of no line
+abbrev pub noRead : ReadExtent
+noRead = atLine 0 noExtent
+
 -- the values of a descriptor: version, CID, parentCID, createType, and the geometry's sectors, heads and cylinders
 abbrev pub descOf : ℕ → Text → Text → Text → ℕ → ℕ → ℕ → VmdkDesc
 descOf v c p t s h y =
@@ -44,16 +53,23 @@ unfoldable pub over : {A : Type 0} → List A → List A → List A
 over xs ys = xs ++ drop (length xs) ys
 
 -- the record of some values and extents
-abbrev pub recordOf : VmdkDesc → List VmdkParsedExtent → Record
-recordOf desc xs = record { desc = desc; count = length xs; extents = filled noExtent xs }
+abbrev pub recordOf : VmdkDesc → List ReadExtent → Record
+recordOf desc xs = record { desc = desc; count = length xs; extents = filled noRead xs }
 
 -- the empty record
 abbrev pub noRecord : Record
 noRecord = recordOf noDesc []
 
--- the extents that a record counts
-unfoldable pub counted : Record → List VmdkParsedExtent
-counted r = take (r .count) (r .extents)
+-- the extents that a record counts, each with its line ..
+unfoldable pub readIn : Record → List ReadExtent
+readIn r = take (r .count) (r .extents)
+
+-- .. and without
+unfoldable pub bare : List ReadExtent → List VmdkParsedExtent
+bare xs = map (λ (x : ReadExtent). x .extent) xs
+
+abbrev pub counted : Record → List VmdkParsedExtent
+counted r = bare (readIn r)
 
 -- a refusal by its number and its second number
 abbrev pub refusal : ℕ → ℕ → Verdict

@@ -33,6 +33,12 @@ pub struct VmdkParsedExtent {
     pub storage: VmdkParsedStorage,
 }
 
+// An extent that was read: the line of the descriptor that said it, counted from 1, and what it said. In a hand-made record the line is whatever its maker wrote.
+pub struct ReadExtent {
+    pub line: usize,
+    pub extent: VmdkParsedExtent,
+}
+
 // VMDK descriptor information.
 pub struct VmdkDesc {
     // Version number of the VMDK descriptor
@@ -54,11 +60,11 @@ pub struct VmdkDesc {
 // How many extents a record has room for, and rows a table: `most` of specs/.
 pub const MOST: usize = 1024;
 
-// A descriptor that was read: its values, the number of its extents, and the extents. Places past the count are no access and zeros in a record that was empty before it was read into.
+// A descriptor that was read: its values, the number of its extents, and the extents. Places past the count are no access and zeros, of line 0, in a record that was empty before it was read into.
 pub struct Record {
     pub desc: VmdkDesc,
     pub count: usize,
-    pub extents: [VmdkParsedExtent; MOST],
+    pub extents: [ReadExtent; MOST],
 }
 
 // Why an input is refused: document 01's number, and its second number.

@@ -59,10 +59,10 @@ pub(crate) fn case(k: u64, probed: bool, v: Verdict) -> Line {
     }
 }
 
-// Row i of a table, if it has so many places.
+// Row i of a table, if it has so many places, with its line.
 fn row(t: Table, i: usize) -> Line {
-    let n = i as u64;
     let r = t.rows[i % MOST];
+    let n = r.line as u64;
     let s = r.source;
     let start = r.start;
     let start = start.offset();

@@ -18,7 +18,7 @@ use Rattle.lines.specs.declared.record.Text.{Text}
 use Rattle.lines.specs.declared.record.Verdict.{Verdict}
 use Rattle.lines.specs.declared.record.Verdict.the-variants.{Sound}
 use Rattle.lines.specs.declared.record.VmdkAccessType.{VmdkAccessType}
-use Rattle.lines.specs.declared.record.VmdkParsedExtent.{VmdkParsedExtent}
+use Rattle.lines.specs.declared.record.ReadExtent.{ReadExtent}
 use Rattle.lines.specs.declared.record.VmdkParsedStorage.{VmdkParsedStorage}
 use Rattle.lines.specs.declared.record.VmdkParsedStorage.the-variants.{NoAccess, Zero, Flat}
 use Rattle.tables.specs.declared.table.Source.{Source}
@@ -28,39 +28,39 @@ use Rattle.tables.specs.declared.build.Opened.{Opened}
 use Rattle.tables.specs.declared.build.Opened.the-variants.{Fits, Refused}
 use Rattle.tables.specs.declared.build.Seen.{Seen}
 use Rattle.tables.specs.declared.build.Step.{Step}
-use Rattle.tables.specs.Build.{noRow, noTable}
-use Rattle.tables.specs.inside.Opening.{rowOf, openFile, openSource, openedOf}
+use Rattle.tables.specs.Build.{rowOf, noRow, noTable}
+use Rattle.tables.specs.inside.Opening.{openFile, openSource, openedOf}
 use Rattle.tables.specs.inside.Stepping.{endStep, stopStep, rowStep, stepOf}
 
-pub row-is : (start end : ℕ) (source : Source) {a b : Bytes} → a ≡ bytesUpto start → b ≡ bytesUpto end → record { start = a; end = b; source = source } ≡ rowOf start end source
-row-is start end source p q = rw (p, q)
+pub row-is : (line start end : ℕ) (source : Source) {a b : Bytes} → a ≡ bytesUpto start → b ≡ bytesUpto end → record { start = a; end = b; source = source; line = line } ≡ rowOf line start end source
+row-is line start end source p q = rw (p, q)
 
 pub ruleset placed = (row-is, needs)
 
-module _ (a : VmdkAccessType) (name : Text) (offset : Sectors) (start end : ℕ) {c : ByteCount} (e : c ≡ bytesOf offset) where
-  pub file-fits : {b : Bytes} {r : Row} → c ≡ Count b → r ≡ rowOf start end (File a b name) → Fits r ≡ openFile a name offset start end
+module _ (a : VmdkAccessType) (name : Text) (offset : Sectors) (line start end : ℕ) {c : ByteCount} (e : c ≡ bytesOf offset) where
+  pub file-fits : {b : Bytes} {r : Row} → c ≡ Count b → r ≡ rowOf line start end (File a b name) → Fits r ≡ openFile a name offset line start end
   unfolding openFile
   file-fits q h = rw (← e, q, h)
 
-  pub file-far : c ≡ TooLarge → Refused 20 ≡ openFile a name offset start end
+  pub file-far : c ≡ TooLarge → Refused 20 ≡ openFile a name offset line start end
   unfolding openFile
   file-far q = rw (← e, q)
 
 pub ruleset files = (file-fits, file-far, needs)
 
-module _ (s : VmdkParsedStorage) (start end : ℕ) where
-  pub source-locked : {r : Row} → s ≡ NoAccess → r ≡ rowOf start end Locked → Fits r ≡ openSource s start end
+module _ (s : VmdkParsedStorage) (line start end : ℕ) where
+  pub source-locked : {r : Row} → s ≡ NoAccess → r ≡ rowOf line start end Locked → Fits r ≡ openSource s line start end
   source-locked q h = rw (q, h)
 
-  pub source-zero : {a : VmdkAccessType} {r : Row} → s ≡ Zero a → r ≡ rowOf start end (Zeros a) → Fits r ≡ openSource s start end
+  pub source-zero : {a : VmdkAccessType} {r : Row} → s ≡ Zero a → r ≡ rowOf line start end (Zeros a) → Fits r ≡ openSource s line start end
   source-zero q h = rw (q, h)
 
-  pub source-flat : {a : VmdkAccessType} {name : Text} {offset : Sectors} {r : Opened} → s ≡ Flat a name offset → r ≡ openFile a name offset start end → r ≡ openSource s start end
+  pub source-flat : {a : VmdkAccessType} {name : Text} {offset : Sectors} {r : Opened} → s ≡ Flat a name offset → r ≡ openFile a name offset line start end → r ≡ openSource s line start end
   source-flat q h = rw (q, h)
 
 pub ruleset opens = (source-locked, source-zero, source-flat, needs)
 
-module _ (x : VmdkParsedExtent) (start : ℕ) {c : ByteCount} (e : c ≡ bytesOf (x .sectors)) where
+module _ (x : ReadExtent) (start : ℕ) {c : ByteCount} (e : c ≡ bytesOf (x .extent .sectors)) where
   pub extent-large : c ≡ TooLarge → Refused 18 ≡ openedOf x start
   unfolding openedOf
   extent-large q = rw (← e, q)
@@ -70,7 +70,7 @@ module _ (x : VmdkParsedExtent) (start : ℕ) {c : ByteCount} (e : c ≡ bytesOf
     unfolding openedOf
     extent-over l = let g : largest < start + b .0 = omega arith in rw (← e, q, lt-leb _ _ g)
 
-    pub extent-opens : {r : Opened} → z ≤ largest - start → r ≡ openSource (x .storage) start (start + z) → r ≡ openedOf x start
+    pub extent-opens : {r : Opened} → z ≤ largest - start → r ≡ openSource (x .extent .storage) (x .line) start (start + z) → r ≡ openedOf x start
     unfolding openedOf
     extent-opens l h = let g : start + b .0 ≤ largest = omega arith in rw (← e, q, le-leb _ _ g, h, k)
 
@@ -108,7 +108,7 @@ module _ (v : Seen) (i : ℕ) (size : Bytes) {r : Step} where
       unfolding stepOf
       step-row p q = q ∙ rw (le-leb (v .count) most f, lt-leb (v .count) i l, ← k, ← e, p)
 
-      pub step-refused : {n : ℕ} → o ≡ Refused n → r ≡ stopStep n i → r ≡ stepOf v i size
+      pub step-refused : {n : ℕ} → o ≡ Refused n → r ≡ stopStep n (v .extent .line) → r ≡ stepOf v i size
       unfolding stepOf
       step-refused p q = q ∙ rw (le-leb (v .count) most f, lt-leb (v .count) i l, ← k, ← e, p)
 

@@ -16,13 +16,13 @@ use Rattle.text.specs.declared.sector.Bytes.{Bytes}
 use Rattle.text.specs.declared.sector.ByteCount.{ByteCount}
 use Rattle.text.specs.declared.sector.ByteCount.the-variants.{Count, TooLarge}
 use Rattle.text.proofs.Flat.{by-test}
-use Rattle.lines.specs.Record.{most, noExtent, counted, over}
+use Rattle.lines.specs.Record.{most, noRead, readIn, over}
 use Rattle.lines.specs.declared.record.Text.{Text}
 use Rattle.lines.specs.declared.record.Record.{Record}
 use Rattle.lines.specs.declared.record.Verdict.{Verdict}
 use Rattle.lines.specs.declared.record.Verdict.the-variants.{Sound}
 use Rattle.lines.specs.declared.record.VmdkAccessType.{VmdkAccessType}
-use Rattle.lines.specs.declared.record.VmdkParsedExtent.{VmdkParsedExtent}
+use Rattle.lines.specs.declared.record.ReadExtent.{ReadExtent}
 use Rattle.lines.specs.declared.record.VmdkParsedStorage.{VmdkParsedStorage}
 use Rattle.lines.specs.declared.record.VmdkParsedStorage.the-variants.{NoAccess, Zero, Flat}
 use Rattle.lines.proofs.Overs.{over-held, over-set}
@@ -34,9 +34,9 @@ use Rattle.tables.specs.declared.build.Opened.{Opened}
 use Rattle.tables.specs.declared.build.Opened.the-variants.{Fits, Refused}
 use Rattle.tables.specs.declared.build.Seen.{Seen}
 use Rattle.tables.specs.declared.build.Step.{Step}
-use Rattle.tables.specs.Build.{Rows, rows, refused, inBytes, inSource, before, rowsFrom, built, buildOf}
+use Rattle.tables.specs.Build.{Rows, rows, refused, rowOf, inBytes, inSource, before, rowsFrom, built, buildOf}
 use Rattle.tables.specs.Into.{thenRows, rowsUpTo, storedRows, buildInto}
-use Rattle.tables.specs.inside.Opening.{rowOf, fileBy, openSource, openFile, sizeBy, openedOf}
+use Rattle.tables.specs.inside.Opening.{fileBy, openSource, openFile, sizeBy, openedOf}
 use Rattle.tables.specs.inside.Stepping.{seenOf, endStep, stopStep, openedStep, stepOf, storedRow, sized}
 use Rattle.tables.proofs.Builds.{step-many}
 
@@ -50,45 +50,45 @@ ahead-rows : (rs : List Row) (size : ℕ) → ahead rs (rows [] size) ≡ rows r
 ahead-rows [] size = refl
 ahead-rows (r ∷ rs) size = ap (before r) (ahead-rows rs size)
 
-ahead-refused : (rs : List Row) (n i : ℕ) → ahead rs (refused n i) ≡ refused n i
-ahead-refused [] n i = refl
-ahead-refused (r ∷ rs) n i = ap (before r) (ahead-refused rs n i)
+ahead-refused : (rs : List Row) (n k : ℕ) → ahead rs (refused n k) ≡ refused n k
+ahead-refused [] n k = refl
+ahead-refused (r ∷ rs) n k = ap (before r) (ahead-refused rs n k)
 
 ahead-more : (rs : List Row) (r : Row) (z : Rows) → ahead rs (before r z) ≡ ahead (rs ++ (r ∷ [])) z
 ahead-more [] r z = refl
 ahead-more (q ∷ rs) r z = ap (before q) (ahead-more rs r z)
 
--- by what opening the extent gives
+-- by what opening the extent of line k gives
 abbrev pub byRows : Opened → ℕ → (ℕ → Rows) → Rows
-byRows (Fits r) i go = before r (go (r .end .0))
-byRows (Refused n) i go = refused n i
+byRows (Fits r) k go = before r (go (r .end .0))
+byRows (Refused n) k go = refused n k
 
-module _ (i start : ℕ) (xs : List VmdkParsedExtent) where
+module _ (start : ℕ) (xs : List ReadExtent) where
   abbrev pub go : ℕ → Rows
-  go end = rowsFrom (suc i) end xs
+  go end = rowsFrom end xs
 
-  by-file : (c : ByteCount) (a : VmdkAccessType) (name : Text) (end : ℕ) → inBytes c (refused 20 i) (λ b. before (rowOf start end (File a (record { 0 = b }) name)) (go end)) ≡ byRows (fileBy c a name start end) i go
-  by-file (Count b) a name end = refl
-  by-file TooLarge a name end = refl
+  by-file : (c : ByteCount) (a : VmdkAccessType) (name : Text) (k end : ℕ) → inBytes c (refused 20 k) (λ b. before (rowOf k start end (File a (record { 0 = b }) name)) (go end)) ≡ byRows (fileBy c a name k start end) k go
+  by-file (Count b) a name k end = refl
+  by-file TooLarge a name k end = refl
 
-  by-source : (s : VmdkParsedStorage) (end : ℕ) → inSource s (refused 20 i) (λ source. before (rowOf start end source) (go end)) ≡ byRows (openSource s start end) i go
+  by-source : (s : VmdkParsedStorage) (k end : ℕ) → inSource s (refused 20 k) (λ source. before (rowOf k start end source) (go end)) ≡ byRows (openSource s k start end) k go
   unfolding openFile
-  by-source NoAccess end = refl
-  by-source (Zero a) end = refl
-  by-source (Flat a name offset) end = by-file (bytesOf offset) a name end
+  by-source NoAccess k end = refl
+  by-source (Zero a) k end = refl
+  by-source (Flat a name offset) k end = by-file (bytesOf offset) a name k end
 
-  by-size : (c : ByteCount) (s : VmdkParsedStorage) → inBytes c (refused 18 i) (λ size. pick (leb (start + size) largest) (inSource s (refused 20 i) (λ source. before (rowOf start (start + size) source) (go (start + size)))) (refused 19 i)) ≡ byRows (sizeBy c s start) i go
-  by-size (Count b) s = by-test (leb (start + b .0) largest) (λ e. rw e (by-source s (start + b .0))) (λ e. rw e)
-  by-size TooLarge s = refl
+  by-size : (c : ByteCount) (s : VmdkParsedStorage) (k : ℕ) → inBytes c (refused 18 k) (λ size. pick (leb (start + size) largest) (inSource s (refused 20 k) (λ source. before (rowOf k start (start + size) source) (go (start + size)))) (refused 19 k)) ≡ byRows (sizeBy c s k start) k go
+  by-size (Count b) s k = by-test (leb (start + b .0) largest) (λ e. rw e (by-source s k (start + b .0))) (λ e. rw e)
+  by-size TooLarge s k = refl
 
-  pub rows-open : (x : VmdkParsedExtent) → rowsFrom i start (x ∷ xs) ≡ byRows (openedOf x start) i go
+  pub rows-open : (x : ReadExtent) → rowsFrom start (x ∷ xs) ≡ byRows (openedOf x start) (x .line) go
   unfolding rowsFrom openedOf
-  rows-open x = by-size (bytesOf (x .sectors)) (x .storage)
+  rows-open x = by-size (bytesOf (x .extent .sectors)) (x .extent .storage) (x .line)
 
 -- ---- the rows that are stored
-pub rows-none : (i size : ℕ) → rowsFrom i size [] ≡ rows [] size
+pub rows-none : (size : ℕ) → rowsFrom size [] ≡ rows [] size
 unfolding rowsFrom
-rows-none i size = refl
+rows-none size = refl
 
 pub up-to-none : (start : ℕ) → rowsUpTo start [] ≡ []
 unfolding rowsUpTo
@@ -99,14 +99,14 @@ abbrev pub storedBy : Opened → (ℕ → List Row) → List Row
 storedBy (Fits r) go = r ∷ go (r .end .0)
 storedBy (Refused n) go = []
 
-stored-by : (o : Opened) (more : ℕ → List Row) → thenRows (byRows o 0 (λ end. rowsFrom 1 end [])) more ≡ storedBy o more
+stored-by : (o : Opened) (k : ℕ) (more : ℕ → List Row) → thenRows (byRows o k (λ end. rowsFrom end [])) more ≡ storedBy o more
 unfolding rowsFrom
-stored-by (Fits r) more = refl
-stored-by (Refused n) more = refl
+stored-by (Fits r) k more = refl
+stored-by (Refused n) k more = refl
 
-pub up-to-open : (start : ℕ) (x : VmdkParsedExtent) (xs : List VmdkParsedExtent) → rowsUpTo start (x ∷ xs) ≡ storedBy (openedOf x start) (λ end. rowsUpTo end xs)
+pub up-to-open : (start : ℕ) (x : ReadExtent) (xs : List ReadExtent) → rowsUpTo start (x ∷ xs) ≡ storedBy (openedOf x start) (λ end. rowsUpTo end xs)
 unfolding rowsUpTo
-up-to-open start x xs = ap (λ (z : Rows). thenRows z (λ end. rowsUpTo end xs)) (rows-open 0 start [] x) ∙ stored-by (openedOf x start) (λ end. rowsUpTo end xs)
+up-to-open start x xs = ap (λ (z : Rows). thenRows z (λ end. rowsUpTo end xs)) (rows-open start [] x) ∙ stored-by (openedOf x start) (x .line) (λ end. rowsUpTo end xs)
 
 -- ---- what is answered and left
 abbrev pub Ending : Type 0
@@ -120,7 +120,7 @@ abbrev pub soFar : Step → Table → List Row
 soFar s z = take (s .at) (z .rows) ++ (s .row ∷ [])
 
 unfoldable pub goesOn : Record → Step → Table → Ending
-goesOn r s z = leaves (built (ahead (soFar s z) (rowsFrom (s .past) (s .size .0) (drop (s .past) (counted r))))) (soFar s z ++ rowsUpTo (s .size .0) (drop (s .past) (counted r))) z
+goesOn r s z = leaves (built (ahead (soFar s z) (rowsFrom (s .size .0) (drop (s .past) (readIn r))))) (soFar s z ++ rowsUpTo (s .size .0) (drop (s .past) (readIn r))) z
 
 unfoldable pub endOf : Record → Step → Table → Ending
 endOf r s z = pick (s .more) (goesOn r s z) (s .verdict, sized z (s .size) (s .past))
@@ -139,9 +139,9 @@ none e = let z : _≡_ {A = ℕ} 0 1 = cc in absurd (omega arith)
 over-more : (rs zs : List Row) (n : ℕ) → take n zs ≡ rs → length rs ≡ n → over (rs ++ []) zs ≡ zs
 over-more rs zs n h l = ap (λ (k : List Row). over k zs) (append-nil rs) ∙ over-held rs zs n h l
 
-counted-drop : (r : Record) (i : ℕ) → drop i (take (r .count) (r .extents)) ≡ drop i (counted r)
-unfolding counted
-counted-drop r i = refl
+read-drop : (r : Record) (i : ℕ) → drop i (take (r .count) (r .extents)) ≡ drop i (readIn r)
+unfolding readIn
+read-drop r i = refl
 
 module _ (r : Record) (z : Table) (rs : List Row) (i : ℕ) (held : take i (z .rows) ≡ rs) (long : length rs ≡ i) where
   stopped-right : (n s : ℕ) → Right r z (stopStep n s) (leaves (built (ahead rs (refused n s))) (rs ++ []) z)
@@ -153,39 +153,39 @@ module _ (r : Record) (z : Table) (rs : List Row) (i : ℕ) (held : take i (z .r
   ended-right n size e = record { ends = rw (ahead-rows rs (size .0), over-more rs (z .rows) i held long, e); ready = λ e. none e }
 
   -- the extent's row, or its refusal
-  opened-right : (o : Opened) (xs : List VmdkParsedExtent) → xs ≡ drop (i + 1) (counted r) → i < r .count → r .count ≤ most
-      → Right r z (openedStep o i) (leaves (built (ahead rs (byRows o i (λ end. rowsFrom (suc i) end xs)))) (rs ++ storedBy o (λ end. rowsUpTo end xs)) z)
+  opened-right : (o : Opened) (k : ℕ) (xs : List ReadExtent) → xs ≡ drop (i + 1) (readIn r) → i < r .count → r .count ≤ most
+      → Right r z (openedStep o k i) (leaves (built (ahead rs (byRows o k (λ end. rowsFrom end xs)))) (rs ++ storedBy o (λ end. rowsUpTo end xs)) z)
   unfolding endOf goesOn
-  opened-right (Refused n) xs q l f = stopped-right n i
-  opened-right (Fits row) xs q l f = record {
+  opened-right (Refused n) k xs q l f = stopped-right n k
+  opened-right (Fits row) k xs q l f = record {
     ends =
-        let front = ahead-more rs row (rowsFrom (suc i) (row .end .0) xs) in
+        let front = ahead-more rs row (rowsFrom (row .end .0) xs) in
         let put = append-assoc rs (row ∷ []) (rowsUpTo (row .end .0) xs) in
-        rw (held, ← q, add-one i, front, put);
+        rw (held, ← q, front, put);
     ready = λ _. (l, (f, (refl, refl)));
   }
 
   module _ (wide : length (r .extents) ≡ most) (f : r .count ≤ most) (g : i ≤ r .count) (size : Bytes) (j : ℕ) (same : i < most → j ≡ i) where
-    pub step-right : Right r z (stepOf (seenOf r j) i size) (leaves (built (ahead rs (rowsFrom i (size .0) (drop i (counted r))))) (rs ++ rowsUpTo (size .0) (drop i (counted r))) z)
-    unfolding stepOf counted
+    pub step-right : Right r z (stepOf (seenOf r j) i size) (leaves (built (ahead rs (rowsFrom (size .0) (drop i (readIn r))))) (rs ++ rowsUpTo (size .0) (drop i (readIn r))) z)
+    unfolding stepOf readIn
     step-right =
         rw (le-leb (r .count) most f)
         (by-test (leb (r .count) i)
         (λ e. let all : r .count ≡ i = omega (arith, leb-true (r .count) i e) in
         let few : length (take (r .count) (r .extents)) ≤ i = omega (arith, length-take (r .count) (r .extents), all) in
         let no-more : drop i (take (r .count) (r .extents)) ≡ [] = drop-of-length-le (take (r .count) (r .extents)) few in
-        rw (e, no-more, rows-none i (size .0), up-to-none (size .0)) (ended-right (r .count) size (long ∙ sym all)))
+        rw (e, no-more, rows-none (size .0), up-to-none (size .0)) (ended-right (r .count) size (long ∙ sym all)))
         (λ e. let l = leb-false (r .count) i e in
         let in-row : i < length (take (r .count) (r .extents)) = omega (arith, length-take (r .count) (r .extents)) in
-        let next : drop i (take (r .count) (r .extents)) ≡ getD (r .extents) i noExtent ∷ drop (i + 1) (take (r .count) (r .extents)) = drop-cons (take (r .count) (r .extents)) i noExtent in-row ∙ rw (getD-take, add-one) in
+        let next : drop i (take (r .count) (r .extents)) ≡ getD (r .extents) i noRead ∷ drop (i + 1) (take (r .count) (r .extents)) = drop-cons (take (r .count) (r .extents)) i noRead in-row ∙ rw (getD-take, add-one) in
         let at-i : j ≡ i = same (omega (arith, l)) in
         let more = drop (i + 1) (take (r .count) (r .extents)) in
-        let x = getD (r .extents) i noExtent in
-        rw (e, next, at-i, rows-open i (size .0) more x, up-to-open (size .0) x more)
-        (opened-right (openedOf x (size .0)) more (counted-drop r (i + 1)) l f)))
+        let x = getD (r .extents) i noRead in
+        rw (e, next, at-i, rows-open (size .0) more x, up-to-open (size .0) x more)
+        (opened-right (openedOf x (size .0)) (x .line) more (read-drop r (i + 1)) l f)))
 
 -- ---- the loop
-build-few : (r : Record) (z : Table) → r .count ≤ most → leaves (buildOf r) (storedRows r) z ≡ leaves (built (rowsFrom 0 0 (counted r))) (rowsUpTo 0 (counted r)) z
+build-few : (r : Record) (z : Table) → r .count ≤ most → leaves (buildOf r) (storedRows r) z ≡ leaves (built (rowsFrom 0 (readIn r))) (rowsUpTo 0 (readIn r)) z
 unfolding buildOf storedRows
 build-few r z f = rw (le-leb (r .count) most f)
 
@@ -220,9 +220,9 @@ turn-right r z s all wide long-rows more h =
     let held : take (s .past) (set (z .rows) i x) ≡ rs = ap (λ (j : ℕ). take j (set (z .rows) i x)) (k .1 .1 .0 ∙ add-one i) ∙ take-suc-set (z .rows) i x in-row in
     let short : length (take i (z .rows)) ≡ i = length-take i (z .rows) ∙ omega (arith, in-row) in
     let long : length rs ≡ s .past = length-append (take i (z .rows)) (x ∷ []) ∙ ap (λ (j : ℕ). j + 1) short ∙ sym (k .1 .1 .0) in
-    let stored : List Row = rs ++ rowsUpTo (s .size .0) (drop (s .past) (counted r)) in
-    let all-is : all ≡ leaves (built (ahead rs (rowsFrom (s .past) (s .size .0) (drop (s .past) (counted r))))) stored z = sym (h .ends) ∙ rw more in
-    let far : i < length stored = omega (arith, long, k .1 .1 .0, length-append rs (rowsUpTo (s .size .0) (drop (s .past) (counted r)))) in
+    let stored : List Row = rs ++ rowsUpTo (s .size .0) (drop (s .past) (readIn r)) in
+    let all-is : all ≡ leaves (built (ahead rs (rowsFrom (s .size .0) (drop (s .past) (readIn r))))) stored z = sym (h .ends) ∙ rw more in
+    let far : i < length stored = omega (arith, long, k .1 .1 .0, length-append rs (rowsUpTo (s .size .0) (drop (s .past) (readIn r)))) in
     let same : over stored (set (z .rows) i x) ≡ over stored (z .rows) = over-set stored (z .rows) i x far in
     rw (all-is, ← same)
     (step-right r (storedRow z i x) rs (s .past) held long wide (k .1 .0) (omega (arith, k .0, k .1 .1 .0)) (s .size) (s .next) (λ l. k .1 .1 .1 ∙ same-place (s .past) l))
@@ -237,15 +237,15 @@ unfolding buildInto
 all-is r z = refl
 
 -- ---- the loop ends
-opened-at : (o : Opened) (i : ℕ) → openedStep o i .more ≡ true → openedStep o i .at ≡ i
-opened-at (Fits r) i = λ _. refl
-opened-at (Refused n) i = λ e. none e
+opened-at : (o : Opened) (k i : ℕ) → openedStep o k i .more ≡ true → openedStep o k i .at ≡ i
+opened-at (Fits r) k i = λ _. refl
+opened-at (Refused n) k i = λ e. none e
 
 step-at : (v : Seen) (i : ℕ) (size : Bytes) → stepOf v i size .more ≡ true → stepOf v i size .at ≡ i
 unfolding stepOf
 step-at v i size =
     by-test (leb (v .count) most)
-    (λ e. rw e (by-test (leb (v .count) i) (λ g. rw g (λ q. none q)) (λ g. rw g (opened-at (openedOf (v .extent) (size .0)) i))))
+    (λ e. rw e (by-test (leb (v .count) i) (λ g. rw g (λ q. none q)) (λ g. rw g (opened-at (openedOf (v .extent) (size .0)) (v .extent .line) i))))
     (λ e. rw e (λ q. none q))
 
 unfoldable pub rank : Step → ℕ

@@ -1,5 +1,5 @@
 -- Building: rows follow each other from 0, one for each extent. Building checks for each extent in turn: size, sum, then for flat the file start times 512.
-use Prim.Native.Nat.{ℕ, suc, _+_}
+use Prim.Native.Nat.{ℕ, _+_}
 use mathlib.Core.List.{List, [], _∷_}
 use lib.ListN.{length}
 use lib.Dec.{leb}
@@ -7,10 +7,10 @@ use Rattle.text.specs.Ranges.{pick}
 use Rattle.text.specs.Sector.{bytesOf, largest}
 use Rattle.text.specs.declared.sector.ByteCount.{ByteCount}
 use Rattle.text.specs.declared.sector.ByteCount.the-variants.{Count, TooLarge}
-use Rattle.lines.specs.Record.{most, filled, counted, refusal}
+use Rattle.lines.specs.Record.{most, filled, readIn, refusal}
 use Rattle.lines.specs.declared.record.Record.{Record}
 use Rattle.lines.specs.declared.record.Verdict.the-variants.{Sound}
-use Rattle.lines.specs.declared.record.VmdkParsedExtent.{VmdkParsedExtent}
+use Rattle.lines.specs.declared.record.ReadExtent.{ReadExtent}
 use Rattle.lines.specs.declared.record.VmdkParsedStorage.{VmdkParsedStorage}
 use Rattle.lines.specs.declared.record.VmdkParsedStorage.the-variants.{NoAccess, Zero, Flat}
 use Rattle.tables.specs.declared.table.Source.{Source}
@@ -19,9 +19,13 @@ use Rattle.tables.specs.declared.table.Row.{Row}
 use Rattle.tables.specs.declared.table.Table.{Table}
 use Rattle.tables.specs.declared.table.Built.{Built}
 
--- no access and zeros
+-- a row of a line, from its start up to its end
+abbrev pub rowOf : ℕ → ℕ → ℕ → Source → Row
+rowOf line start end source = record { start = record { 0 = start }; end = record { 0 = end }; source = source; line = line }
+
+-- no access and zeros, of no line
 abbrev pub noRow : Row
-noRow = record { start = record { 0 = 0 }; end = record { 0 = 0 }; source = Locked }
+noRow = rowOf 0 0 0 Locked
 
 -- the table of some rows and a size
 abbrev pub tableOf : List Row → ℕ → Table
@@ -31,7 +35,7 @@ tableOf rows size = record { size = record { 0 = size }; count = length rows; ro
 abbrev pub noTable : Table
 noTable = tableOf [] 0
 
--- the rows and the size, or a refusal's number and the extent's
+-- the rows and the size, or a refusal's number and the extent's line
 pub data Rows : Type 0 where
   rows : List Row → ℕ → Rows
   refused : ℕ → ℕ → Rows
@@ -50,23 +54,23 @@ inSource (Flat a name start) else go = inBytes (bytesOf start) else λ b. go (Fi
 -- one row in front
 abbrev pub before : Row → Rows → Rows
 before r (rows rs size) = rows (r ∷ rs) size
-before r (refused n i) = refused n i
+before r (refused n k) = refused n k
 
--- the rows of the extents from number i on, which start at a place of the disk
-unfoldable pub rowsFrom : ℕ → ℕ → List VmdkParsedExtent → Rows
-rowsFrom i start [] = rows [] start
-rowsFrom i start (x ∷ xs) =
-    inBytes (bytesOf (x .sectors)) (refused 18 i) λ size.
+-- the rows of some extents, which start at a place of the disk; each has its extent's line
+unfoldable pub rowsFrom : ℕ → List ReadExtent → Rows
+rowsFrom start [] = rows [] start
+rowsFrom start (x ∷ xs) =
+    inBytes (bytesOf (x .extent .sectors)) (refused 18 (x .line)) λ size.
     pick (leb (start + size) largest)
-    (inSource (x .storage) (refused 20 i) λ source.
-    before (record { start = record { 0 = start }; end = record { 0 = start + size }; source = source }) (rowsFrom (suc i) (start + size) xs))
-    (refused 19 i)
+    (inSource (x .extent .storage) (refused 20 (x .line)) λ source.
+    before (rowOf (x .line) start (start + size) source) (rowsFrom (start + size) xs))
+    (refused 19 (x .line))
 
 -- a refused build answers an empty table
 abbrev pub built : Rows → Built
 built (rows rs size) = record { verdict = Sound; table = tableOf rs size }
-built (refused n i) = record { verdict = refusal n i; table = noTable }
+built (refused n k) = record { verdict = refusal n k; table = noTable }
 
 -- building: 23 first, then extent by extent
 unfoldable pub buildOf : Record → Built
-buildOf r = pick (leb (r .count) most) (built (rowsFrom 0 0 (counted r))) (built (refused 23 0))
+buildOf r = pick (leb (r .count) most) (built (rowsFrom 0 (readIn r))) (built (refused 23 0))

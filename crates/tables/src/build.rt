@@ -3,12 +3,12 @@ use crate::table::Row;
 use crate::table::Source;
 use crate::table::Table;
 use lines::record::MOST;
+use lines::record::ReadExtent;
 use lines::record::Record;
 use lines::record::Refusal;
 use lines::record::Text;
 use lines::record::Verdict;
 use lines::record::VmdkAccessType;
-use lines::record::VmdkParsedExtent;
 use lines::record::VmdkParsedStorage;
 use text::sector::ByteCount;
 use text::sector::Bytes;
@@ -18,9 +18,9 @@ ghost use mathlib.Core.List.{[]};
 ghost use Prim.Native.Nat.{_<_};
 ghost use Rattle.text.specs.Sector.{bytesUpto};
 ghost use Rattle.lines.specs.Record.{most, filled};
-ghost use Rattle.tables.specs.Build.{noRow, noTable, buildOf};
+ghost use Rattle.tables.specs.Build.{rowOf, noRow, noTable, buildOf};
 ghost use Rattle.tables.specs.Into.{buildInto};
-ghost use Rattle.tables.specs.inside.Opening.{rowOf, openFile, openSource, openedOf};
+ghost use Rattle.tables.specs.inside.Opening.{openFile, openSource, openedOf};
 ghost use Rattle.tables.specs.inside.Stepping.{seenOf, endStep, stopStep, rowStep, stepOf, storedRow, sized};
 
 // What opening an extent gives: its row, or a refusal's number.
@@ -32,7 +32,7 @@ enum Opened {
 // What is looked at of a record at a step: how many extents it counts, and one of them.
 pub(crate) struct Seen {
     pub count: usize,
-    pub extent: VmdkParsedExtent,
+    pub extent: ReadExtent,
 }
 
 // Where building stands.
@@ -49,22 +49,23 @@ pub(crate) struct Step {
     pub verdict: Verdict,
 }
 
-// A row from its start up to its end.
-fn row(start: u64, end: u64, source: Source) -> Row
-    ensures { λ r. ⌜ r ≡ rowOf start end source ⌝ }
+// A line's row from its start up to its end.
+fn row(line: usize, start: u64, end: u64, source: Source) -> Row
+    ensures { λ r. ⌜ r ≡ rowOf line start end source ⌝ }
 {
     Row {
         start: Bytes::upto(start),
         end: Bytes::upto(end),
         source,
+        line,
     }
 }
 
-// No access and zeros: what stands in a place that holds no row.
+// No access and zeros, of no line: what stands in a place that holds no row.
 pub fn no_row() -> Row
     ensures { λ r. ⌜ r ≡ noRow ⌝ }
 {
-    row(0, 0, Source::NoAccess)
+    row(0, 0, 0, Source::NoAccess)
 }
 
 // No row in any place.
@@ -89,13 +90,20 @@ pub fn no_table() -> Table
 }
 
 // The row of a flat extent, whose file start is turned into bytes. (20)
-fn open_file(access: VmdkAccessType, name: Text, offset: Sectors, start: u64, end: u64) -> Opened
-    ensures { λ r. ⌜ r ≡ openFile access name offset start end ⌝ }
+fn open_file(
+    access: VmdkAccessType,
+    name: Text,
+    offset: Sectors,
+    line: usize,
+    start: u64,
+    end: u64,
+) -> Opened
+    ensures { λ r. ⌜ r ≡ openFile access name offset line start end ⌝ }
 {
     let bytes = offset.bytes();
     match bytes {
         ByteCount::Count(base) => {
-            let row = row(start, end, Source::Flat(access, base, name));
+            let row = row(line, start, end, Source::Flat(access, base, name));
             Opened::Fits(row)
         }
         ByteCount::TooLarge => Opened::Refused(20),
@@ -103,22 +111,23 @@ fn open_file(access: VmdkAccessType, name: Text, offset: Sectors, start: u64, en
 }
 
 // The row of an extent from its start up to its end, by its data source.
-fn open_source(storage: VmdkParsedStorage, start: u64, end: u64) -> Opened
-    ensures { λ r. ⌜ r ≡ openSource storage start end ⌝ }
+fn open_source(storage: VmdkParsedStorage, line: usize, start: u64, end: u64) -> Opened
+    ensures { λ r. ⌜ r ≡ openSource storage line start end ⌝ }
 {
     match storage {
         VmdkParsedStorage::NoAccess => {
-            let row = row(start, end, Source::NoAccess);
+            let row = row(line, start, end, Source::NoAccess);
             Opened::Fits(row)
         }
         VmdkParsedStorage::Zero(access) => {
-            let row = row(start, end, Source::Zero(access));
+            let row = row(line, start, end, Source::Zero(access));
             Opened::Fits(row)
         }
         VmdkParsedStorage::Flat(access, name, offset) => open_file(
             access,
             name,
             offset,
+            line,
             start,
             end,
         ),
@@ -126,9 +135,10 @@ fn open_source(storage: VmdkParsedStorage, start: u64, end: u64) -> Opened
 }
 
 // The row of an extent that starts at an offset of the disk: its size, its end, then its source. (18, 19, 20)
-fn open_implicit_extent(extent: VmdkParsedExtent, in_disk_offset: u64) -> Opened
-    ensures { λ r. ⌜ r ≡ openedOf extent «in_disk_offset» ⌝ }
+fn open_implicit_extent(read: ReadExtent, in_disk_offset: u64) -> Opened
+    ensures { λ r. ⌜ r ≡ openedOf read «in_disk_offset» ⌝ }
 {
+    let extent = read.extent;
     let sectors = extent.sectors;
     let storage = extent.storage;
     let bytes = sectors.bytes();
@@ -138,7 +148,7 @@ fn open_implicit_extent(extent: VmdkParsedExtent, in_disk_offset: u64) -> Opened
             if 18446744073709551615 - in_disk_offset < length {
                 return Opened::Refused(19);
             }
-            open_source(storage, in_disk_offset, in_disk_offset + length)
+            open_source(storage, read.line, in_disk_offset, in_disk_offset + length)
         }
         ByteCount::TooLarge => Opened::Refused(18),
     }
@@ -205,7 +215,7 @@ fn step_at(v: Seen, i: usize, size: Bytes) -> Step
     let opened = open_implicit_extent(extent, start);
     match opened {
         Opened::Fits(row) => one_more(row, i),
-        Opened::Refused(number) => stopped(number, i),
+        Opened::Refused(number) => stopped(number, extent.line),
     }
 }
 

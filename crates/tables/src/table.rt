@@ -15,14 +15,15 @@ pub enum Source {
     Flat(VmdkAccessType, Bytes, Text),
 }
 
-// VMDK extent: the part of the virtual disk that it covers, from its start up to its end, and its source.
+// VMDK extent: the part of the virtual disk that it covers, from its start up to its end, its source, and the line of the descriptor that said it, counted from 1 (of a hand-made extent, whatever its maker wrote).
 pub struct Row {
     pub start: Bytes,
     pub end: Bytes,
     pub source: Source,
+    pub line: usize,
 }
 
-// The disk's size and the rows. Places past the count are no access and zeros in a table that was empty before it was built.
+// The disk's size and the rows. Places past the count are no access and zeros, of line 0, in a table that was empty before it was built.
 pub struct Table {
     pub size: Bytes,
     pub count: usize,
@@ -60,17 +61,17 @@ pub enum PieceSource {
     Raw,
 }
 
-// A part of the disk that lies in one row.
+// A part of the disk that lies in one row. (The two bytes stand last, beside each other: so a piece has 40 bytes.)
 pub struct Piece {
     // Where it starts on the disk
     pub start: u64,
     // How many bytes it has
     pub run: u64,
-    pub source: PieceSource,
     // The row's number
     pub row: usize,
     // Where it starts in the row's file; 0 for zeros
     pub file_offset: u64,
+    pub source: PieceSource,
     // Whether it may be written; never for zeros
     pub writable: bool,
 }

@@ -13,8 +13,9 @@ use borrow.Author.Tests.{leb-true}
 use Rattle.text.specs.Ranges.{pick}
 use Rattle.text.specs.Sector.{bytesOf, largest, sectorSize}
 use Rattle.text.specs.declared.sector.Sectors.{Sectors}
-use Rattle.lines.specs.Record.{most, filled, counted, noExtent, refusal}
+use Rattle.lines.specs.Record.{most, filled, readIn, bare, counted, noRead, noExtent, refusal}
 use Rattle.lines.specs.declared.record.Record.{Record}
+use Rattle.lines.specs.declared.record.ReadExtent.{ReadExtent}
 use Rattle.lines.specs.declared.record.Verdict.the-variants.{Sound}
 use Rattle.lines.specs.declared.record.VmdkParsedExtent.{VmdkParsedExtent}
 use Rattle.lines.specs.declared.record.VmdkParsedStorage.{VmdkParsedStorage}
@@ -25,19 +26,24 @@ use Rattle.tables.specs.declared.table.Table.{Table}
 use Rattle.tables.specs.declared.table.Built.{Built}
 use Rattle.tables.specs.Build.{noRow, tableOf, Rows, rows, refused, inBytes, inSource, before, rowsFrom, built, buildOf}
 use Rattle.maps.specs.Place.{bytesIn, sizeOf}
-use Rattle.theorems.specs.Rows.{Builds, sourceOf}
+use Rattle.theorems.specs.Rows.{Builds, sourceOf, lineAt}
+use Rattle.theorems.proofs.Sayings.{bare-length}
 use Rattle.text.proofs.Flat.{by-test}
 
--- the row of an extent that starts at a place of the disk
-abbrev pub rowOf : ℕ → VmdkParsedExtent → Row
-rowOf start x = record { start = record { 0 = start }; end = record { 0 = start + bytesIn x }; source = sourceOf (x .storage) }
+-- the row of a line's extent that starts at a place of the disk
+abbrev pub rowOf : ℕ → ℕ → VmdkParsedExtent → Row
+rowOf k start x = record { start = record { 0 = start }; end = record { 0 = start + bytesIn x }; source = sourceOf (x .storage); line = k }
 
--- the rows of extents, one after the other
-unfoldable pub laid : ℕ → List VmdkParsedExtent → List Row
-laid start [] = []
-laid start (x ∷ xs) = rowOf start x ∷ laid (start + bytesIn x) xs
+-- the rows of extents, one after the other, whose lines are told by their numbers
+unfoldable pub laid : (ℕ → ℕ) → ℕ → List VmdkParsedExtent → List Row
+laid ln start [] = []
+laid ln start (x ∷ xs) = rowOf (ln 0) start x ∷ laid (λ i. ln (suc i)) (start + bytesIn x) xs
 
-never : {i n : ℕ} {rs : List Row} {size : ℕ} → refused n i ≡ rows rs size → ⊥
+-- the lines of read extents
+abbrev pub linesIn : List ReadExtent → ℕ → ℕ
+linesIn xs i = getD xs i noRead .line
+
+never : {k n : ℕ} {rs : List Row} {size : ℕ} → refused n k ≡ rows rs size → ⊥
 never e = let z : _≡_ {A = ℕ} 0 1 = cc in omega arith
 
 -- an extent's file start in bytes is a number of 64 bits
@@ -68,63 +74,68 @@ module _ (else : Rows) (rs : List Row) (size : ℕ) (off : else ≡ rows rs size
 
 in-front : (r : Row) (more : Rows) (rs : List Row) (size : ℕ) → before r more ≡ rows rs size → (rs′ : List Row) × (more ≡ rows rs′ size) × (rs ≡ r ∷ rs′)
 in-front r (rows rs′ n) rs size h = (rs′, cc, cc)
-in-front r (refused n i) rs size h = absurd (never h)
+in-front r (refused n k) rs size h = absurd (never h)
 
-pub rows-laid : (i start : ℕ) (xs : List VmdkParsedExtent) (rs : List Row) (size : ℕ) → rowsFrom i start xs ≡ rows rs size → (rs ≡ laid start xs) × (size ≡ start + sizeOf xs) × Numbers start xs
-unfolding rowsFrom laid sizeOf
-rows-laid i start [] rs size h =
+pub rows-laid : (start : ℕ) (xs : List ReadExtent) (rs : List Row) (size : ℕ) → rowsFrom start xs ≡ rows rs size → (rs ≡ laid (linesIn xs) start (bare xs)) × (size ≡ start + sizeOf (bare xs)) × Numbers start (bare xs)
+unfolding rowsFrom laid sizeOf bare
+rows-laid start [] rs size h =
     let a : [] ≡ rs = cc in
     let b : start ≡ size = cc in
     (sym a, omega arith, tt)
-rows-laid i start (x ∷ xs) rs size h =
-    let h₁ = in-bytes (refused 18 i) rs size never (x .sectors) _ h in
-    let h₂ = in-test (refused 19 i) rs size never (leb (start + bytesIn x) largest) _ (h₁ .0) in
-    let h₃ = in-source (refused 20 i) rs size never (x .storage) _ (h₂ .0) in
-    let f = in-front (rowOf start x) (rowsFrom (suc i) (start + bytesIn x) xs) rs size (h₃ .0) in
-    let g = rows-laid (suc i) (start + bytesIn x) xs (f .0) size (f .1) in
+rows-laid start (x ∷ xs) rs size h =
+    let k = x .line in
+    let y = x .extent in
+    let h₁ = in-bytes (refused 18 k) rs size never (y .sectors) _ h in
+    let h₂ = in-test (refused 19 k) rs size never (leb (start + bytesIn y) largest) _ (h₁ .0) in
+    let h₃ = in-source (refused 20 k) rs size never (y .storage) _ (h₂ .0) in
+    let f = in-front (rowOf k start y) (rowsFrom (start + bytesIn y) xs) rs size (h₃ .0) in
+    let g = rows-laid (start + bytesIn y) xs (f .0) size (f .1) in
     (f .2 ∙ rw (g .0), omega (arith, g .1), (leb-true _ _ (h₂ .1), h₃ .1, g .2))
 
 built-rows : (got : Rows) (t : Table) → built got ≡ record { verdict = Sound; table = t } → (rs : List Row) × (size : ℕ) × (got ≡ rows rs size) × (t ≡ tableOf rs size)
 built-rows (rows rs size) t h = (rs, size, refl, sym (ap (λ (b : Built). b .table) h))
-built-rows (refused n i) t h =
-    let v : refusal n i ≡ Sound = ap (λ (b : Built). b .verdict) h in let z : _≡_ {A = ℕ} 0 1 = cc in absurd (omega arith)
+built-rows (refused n k) t h =
+    let v : refusal n k ≡ Sound = ap (λ (b : Built). b .verdict) h in let z : _≡_ {A = ℕ} 0 1 = cc in absurd (omega arith)
+
+pub counted-few : (r : Record) → length (counted r) ≤ r .count
+unfolding readIn
+counted-few r = omega (arith, bare-length (take (r .count) (r .extents)), length-take (r .count) (r .extents))
 
 counted-short : (r : Record) → r .count ≤ most → length (counted r) ≤ most
-unfolding counted
-counted-short r h = omega (arith, length-take (r .count) (r .extents))
+counted-short r h = omega (arith, h, counted-few r)
 
 -- the table of some extents
-abbrev pub tableIn : List VmdkParsedExtent → Table
-tableIn xs = tableOf (laid 0 xs) (sizeOf xs)
+abbrev pub tableIn : (ℕ → ℕ) → List VmdkParsedExtent → Table
+tableIn ln xs = tableOf (laid ln 0 xs) (sizeOf xs)
 
-rows-table : (xs : List VmdkParsedExtent) (rs : List Row) (size : ℕ) (t : Table) → rowsFrom 0 0 xs ≡ rows rs size → t ≡ tableOf rs size → t ≡ tableIn xs
+rows-table : (xs : List ReadExtent) (rs : List Row) (size : ℕ) (t : Table) → rowsFrom 0 xs ≡ rows rs size → t ≡ tableOf rs size → t ≡ tableIn (linesIn xs) (bare xs)
 rows-table xs rs size t h e =
-    let g = rows-laid 0 0 xs rs size h in
-    let s : size ≡ sizeOf xs = omega arith in
+    let g = rows-laid 0 xs rs size h in
+    let s : size ≡ sizeOf (bare xs) = omega arith in
     rw (e, g .0, s)
 
 -- a built table is the table of its extents' rows, and its numbers are of 64 bits
-pub table-laid : (r : Record) (t : Table) → Builds r t → (t ≡ tableIn (counted r)) × (length (counted r) ≤ most) × Numbers 0 (counted r)
+pub table-laid : (r : Record) (t : Table) → Builds r t → (t ≡ tableIn (lineAt r) (counted r)) × (length (counted r) ≤ most) × Numbers 0 (counted r)
 unfolding buildOf
 table-laid r t h =
     by-test (leb (r .count) most)
-    (λ e. let b = built-rows (rowsFrom 0 0 (counted r)) t (rw e at h) in
-    (rows-table (counted r) (b .0) (b .1) t (b .2) (b .3), counted-short r (leb-true (r .count) most e), rows-laid 0 0 (counted r) (b .0) (b .1) (b .2) .2))
+    (λ e. let b = built-rows (rowsFrom 0 (readIn r)) t (rw e at h) in
+    (rows-table (readIn r) (b .0) (b .1) t (b .2) (b .3), counted-short r (leb-true (r .count) most e), rows-laid 0 (readIn r) (b .0) (b .1) (b .2) .2))
     (λ e. let b = built-rows (refused 23 0) t (rw e at h) in absurd (never (b .2)))
 
-pub length-laid : (start : ℕ) (xs : List VmdkParsedExtent) → length (laid start xs) ≡ length xs
+pub length-laid : (ln : ℕ → ℕ) (start : ℕ) (xs : List VmdkParsedExtent) → length (laid ln start xs) ≡ length xs
 unfolding laid
-length-laid start [] = refl
-length-laid start (x ∷ xs) = ap suc (length-laid (start + bytesIn x) xs)
+length-laid ln start [] = refl
+length-laid ln start (x ∷ xs) = ap suc (length-laid (λ i. ln (suc i)) (start + bytesIn x) xs)
 
 -- row i starts at the sum of the sizes before it
-pub row-laid : (start : ℕ) (xs : List VmdkParsedExtent) (i : ℕ) → i < length xs → getD (laid start xs) i noRow ≡ rowOf (start + sizeOf (take i xs)) (getD xs i noExtent)
+pub row-laid : (ln : ℕ → ℕ) (start : ℕ) (xs : List VmdkParsedExtent) (i : ℕ) → i < length xs → getD (laid ln start xs) i noRow ≡ rowOf (ln i) (start + sizeOf (take i xs)) (getD xs i noExtent)
 unfolding laid sizeOf
-row-laid start [] i h = absurd (omega arith)
-row-laid start (x ∷ xs) zero h = let e : start + 0 ≡ start = omega arith in rw e
-row-laid start (x ∷ xs) (suc i) h =
+row-laid ln start [] i h = absurd (omega arith)
+row-laid ln start (x ∷ xs) zero h = let e : start + 0 ≡ start = omega arith in rw e
+row-laid ln start (x ∷ xs) (suc i) h =
     let e : start + bytesIn x + sizeOf (take i xs) ≡ start + (bytesIn x + sizeOf (take i xs)) = omega arith in
-    row-laid (start + bytesIn x) xs i (omega arith) ∙ rw e
+    row-laid (λ j. ln (suc j)) (start + bytesIn x) xs i (omega arith) ∙ rw e
 
 -- the places past a list's end are `none`, so it reads the same with them
 pub filled-at : {A : Type 0} (none : A) (l : List A) (i : ℕ) → getD (filled none l) i none ≡ getD l i none

@@ -47,7 +47,7 @@ use Rattle.report.specs.declared.command.Command.{Command}
 use Rattle.report.specs.declared.command.Command.the-variants.{Report, Map, Walk as Walks, Usage}
 use Rattle.theorems.specs.Cases.{lines}
 use Rattle.theorems.specs.Reports.{RefusedBy, Opens, OfTable, total, Asked}
-use Rattle.theorems.specs.Rows.{sourceOf}
+use Rattle.theorems.specs.Rows.{sourceOf, lineAt}
 use Rattle.theorems.specs.Statements.{sayingsOf}
 use Rattle.theorems.specs.Tiling.{All, Rise, rowsOf}
 use Rattle.theorems.proofs.Built.{FileStarts, Numbers, rowOf, laid, tableIn, table-laid}
@@ -60,7 +60,7 @@ use Rattle.theorems.proofs.Reports.{only-refused, built-written, refuse
 use Rattle.theorems.proofs.Rising.{rise-few, count-is, size-small, table-rises, table-stops}
 use Rattle.theorems.proofs.Rows.{row-in}
 use Rattle.theorems.proofs.Sayings.{setAll}
-use Rattle.theorems.proofs.SecondNumbers.{AtMost, read-most, build-most}
+use Rattle.theorems.proofs.SecondNumbers.{AtMost, read-most, read-lined, build-most}
 use Rattle.theorems.proofs.Totals.{span, total-rise, span-total}
 use Rattle.theorems.proofs.Verdicts.{accepted-checked}
 use Rattle.theorems.proofs.Widths.{Starts, Shows, shownName, Numbered, probe-short, refused-short, head-short, row-short, mapping-short, piece-short, stop-short}
@@ -71,12 +71,12 @@ starts-of NoAccess h = tt
 starts-of (Zero a) h = tt
 starts-of (Flat a name start) h = h
 
-rows-fit : (d : List ℕ) (k start : ℕ) (xs : List VmdkParsedExtent) → start ≤ largest → Numbers start xs → k + length xs ≤ largest → length (linesFrom (rowLine d) k (laid start xs)) ≤ total (lineBytes d) xs
+rows-fit : (d : List ℕ) (ln : ℕ → ℕ) (k start : ℕ) (xs : List VmdkParsedExtent) → start ≤ largest → Numbers start xs → k + length xs ≤ largest → length (linesFrom (rowLine d) k (laid ln start xs)) ≤ total (lineBytes d) xs
 unfolding linesFrom laid total
-rows-fit d k start [] h n l = omega arith
-rows-fit d k start (x ∷ xs) h n l =
+rows-fit d ln k start [] h n l = omega arith
+rows-fit d ln k start (x ∷ xs) h n l =
     simp length-append
-    (omega (arith, row-short d k (rowOf start x) (omega arith) h (n .0) (starts-of (x .storage) (n .1)), rows-fit d (suc k) (start + bytesIn x) xs (n .0) (n .2) (omega arith)))
+    (omega (arith, row-short d k (rowOf (ln 0) start x) (omega arith) h (n .0) (starts-of (x .storage) (n .1)), rows-fit d (λ i. ln (suc i)) (suc k) (start + bytesIn x) xs (n .0) (n .2) (omega arith)))
 
 -- ---- the pieces of a walk
 -- the most bytes of the line of a piece by row i
@@ -89,40 +89,40 @@ pieces-fit d rows k [] h = omega arith
 pieces-fit d rows k (p ∷ ps) h = simp length-append (omega (arith, piece-short d rows k p (h .0), pieces-fit d rows (suc k) ps (h .1)))
 
 -- ---- a table of extents
-module _ (d : List ℕ) (xs : List VmdkParsedExtent) (few : length xs ≤ most) (n : Numbers 0 xs) where
+module _ (d : List ℕ) (ln : ℕ → ℕ) (xs : List VmdkParsedExtent) (few : length xs ≤ most) (n : Numbers 0 xs) where
   abbrev t : Table
-  t = tableIn xs
+  t = tableIn ln xs
 
   table-fits : (version : ℕ) → version ≤ largest → length (tableLines d version t) ≤ 84 + total (lineBytes d) xs
   unfolding tableLines linesTo filled
   table-fits version h =
-      rw (take-append-seam (laid 0 xs) (replicate _ noRow))
+      rw (take-append-seam (laid ln 0 xs) (replicate _ noRow))
       (simp length-append
-      (omega (arith, head-short version (t .size .0) (t .count) h (size-small xs few n) (omega (arith, count-is xs)), rows-fit d 0 0 xs (omega arith) n (omega arith))))
+      (omega (arith, head-short version (t .size .0) (t .count) h (size-small ln xs few n) (omega (arith, count-is ln xs)), rows-fit d ln 0 0 xs (omega arith) n (omega arith))))
 
   -- the lines of rows that rise
   rows-once : (ks : List ℕ) → Rise 0 ks → All (λ (k : ℕ). k < t .count) ks → total (pieceBytes d (t .rows)) ks ≤ total (lineBytes d) xs
   rows-once ks r a =
       let f = pieceBytes d (t .rows) in
       let e : span f 0 (length xs) ≡ total (lineBytes d) xs = span-total f (lineBytes d) noExtent xs 0
-      (λ j h. let z : 0 + j ≡ j = omega arith in rw z (ap (λ (r : Row). rowMost + length (nameOf d (r .source))) (row-in xs j h))) in
-      omega (arith, total-rise f (t .count) (length xs) 0 ks (omega (arith, count-is xs)) r a)
+      (λ j h. let z : 0 + j ≡ j = omega arith in rw z (ap (λ (r : Row). rowMost + length (nameOf d (r .source))) (row-in ln xs j h))) in
+      omega (arith, total-rise f (t .count) (length xs) 0 ks (omega (arith, count-is ln xs)) r a)
 
   -- ---- a mapping
   shows-of : (o asked : ℕ) (m : ShallowMapping) (run : ℕ) → Gives t o asked m run → Shows m run × (shownName d (t .rows) m ≤ total (lineBytes d) xs)
   unfolding total
   shows-of o asked Eof run g = (tt, omega arith)
   shows-of o asked (Refused k) run g = (omega arith, omega arith)
-  shows-of o asked (Zeroed i) run g = ((omega (arith, size-small xs few n, g .2), omega (arith, count-is xs, g .0)), omega arith)
+  shows-of o asked (Zeroed i) run g = ((omega (arith, size-small ln xs few n, g .2), omega (arith, count-is ln xs, g .0)), omega arith)
   shows-of o asked (Raw i at w) run g =
       let c = g .0 in
-      ((omega (arith, size-small xs few n, c .2), omega (arith, count-is xs, c .0), g .1), omega (arith, rows-once (i ∷ []) (omega arith, tt) (c .0, tt)))
+      ((omega (arith, size-small ln xs few n, c .2), omega (arith, count-is ln xs, c .0), g .1), omega (arith, rows-once (i ∷ []) (omega arith, tt) (c .0, tt)))
 
   map-fits : (o asked : ℕ) → length (mappingLine d (t .rows) (mapOf t o asked)) ≤ 111 + total (lineBytes d) xs
   map-fits o asked =
       let m = mapOf t o asked in
       let g = shows-of o asked (m .mapping) (m .run) (gives t o asked) in
-      let l : m .looked ≤ 64 = looked-most t o asked 64 (omega (arith, count-is xs)) in
+      let l : m .looked ≤ 64 = looked-most t o asked 64 (omega (arith, count-is ln xs)) in
       omega (arith, mapping-short d (t .rows) m (omega arith) (g .0), g .1)
 
   -- ---- a walk
@@ -130,11 +130,11 @@ module _ (d : List ℕ) (xs : List VmdkParsedExtent) (few : length xs ≤ most) 
   unfolding walkLines linesTo
   walk-fits places o asked h =
       let w = walkOf t places o asked in
-      let r = table-rises xs few n places o asked in
-      let s = table-stops xs few n places o asked h in
+      let r = table-rises ln xs few n places o asked in
+      let s = table-stops ln xs few n places o asked h in
       let k = rise-few (t .count) 0 (rowsOf (w .pieces)) (omega arith) (r .0) (r .1) in
-      let l : length (w .pieces) ≤ most = omega (arith, rows-many (w .pieces), count-is xs) in
-      let f : Few w = rw (walk-of t places o asked (omega (arith, count-is xs))) (walk-few (min places most) t o asked) in
+      let l : length (w .pieces) ≤ most = omega (arith, rows-many (w .pieces), count-is ln xs) in
+      let f : Few w = rw (walk-of t places o asked (omega (arith, count-is ln xs))) (walk-few (min places most) t o asked) in
       rw (take-all (length (w .pieces)) (w .pieces) (omega arith))
       (simp length-append
       (omega (arith, pieces-fit d (t .rows) 0 (w .pieces) (r .2), rows-once (rowsOf (w .pieces)) (r .0) (r .1), stop-short (walked w) (s .0) (s .1) (omega arith) (omega arith))))
@@ -156,10 +156,10 @@ version-small d e =
 
 refused-small : (d : List ℕ) → length d ≤ mostInput → (x : Refusal) → RefusedBy d x → length (refusedLine x) ≤ 50
 refused-small d h x (inl e) =
-    let g : (x .number ≤ 24) × (x .second ≤ largest) = subst (AtMost largest) e (read-most largest (omega arith) d (omega arith)) in
+    let g : (x .number ≤ 24) × (x .second ≤ largest) = subst (AtMost largest) e (read-most largest d (omega arith)) in
     refused-short x (omega arith) (g .1)
 refused-small d h x (inr e) =
-    let g : (x .number ≤ 24) × (x .second ≤ largest) = subst (AtMost largest) (e .1) (build-most largest (omega arith) (readOf d .descriptor)) in
+    let g : (x .number ≤ 24) × (x .second ≤ largest) = subst (AtMost largest) (e .1) (build-most largest (readOf d .descriptor) (read-lined largest d (omega arith) (e .0))) in
     refused-short x (omega arith) (g .1)
 
 -- the most bytes of an answer to so many bytes
@@ -175,19 +175,19 @@ refused-fits d h x r (Walks offset long places) = rw (only-refused d x r .walk o
 refused-fits d h x r Usage = omega arith
 
 -- what is said of its table
-table-said : (d : List ℕ) (xs : List VmdkParsedExtent) → length xs ≤ most → Numbers 0 xs → total (lineBytes d) xs ≤ length d + most * rowMost → readOf d .descriptor .desc .version ≤ 3 → OfTable d (tableIn xs) → (c : Command) → Asked c → length (said d c) ≤ answerMost (length d)
-table-said d xs few n l v o Report a =
-    rw (o .report) (simp length-append (omega (arith, probe-short (probeOf d), table-fits d xs few n (readOf d .descriptor .desc .version) (omega arith))))
-table-said d xs few n l v o (Map offset long) a = rw (o .map offset long) (omega (arith, map-fits d xs few n offset long))
-table-said d xs few n l v o (Walks offset long places) a =
-    rw (o .walk offset long places) (omega (arith, walk-fits d xs few n places offset long a))
-table-said d xs few n l v o Usage a = omega arith
+table-said : (d : List ℕ) (ln : ℕ → ℕ) (xs : List VmdkParsedExtent) → length xs ≤ most → Numbers 0 xs → total (lineBytes d) xs ≤ length d + most * rowMost → readOf d .descriptor .desc .version ≤ 3 → OfTable d (tableIn ln xs) → (c : Command) → Asked c → length (said d c) ≤ answerMost (length d)
+table-said d ln xs few n l v o Report a =
+    rw (o .report) (simp length-append (omega (arith, probe-short (probeOf d), table-fits d ln xs few n (readOf d .descriptor .desc .version) (omega arith))))
+table-said d ln xs few n l v o (Map offset long) a = rw (o .map offset long) (omega (arith, map-fits d ln xs few n offset long))
+table-said d ln xs few n l v o (Walks offset long places) a =
+    rw (o .walk offset long places) (omega (arith, walk-fits d ln xs few n places offset long a))
+table-said d ln xs few n l v o Usage a = omega arith
 
 opened-fits : (d : List ℕ) (t : Table) → Opens d t → (c : Command) → Asked c → length (said d c) ≤ answerMost (length d)
 opened-fits d t o =
     let g = table-laid (readOf d .descriptor) t (o .1) in
     let xs = counted (readOf d .descriptor) in
-    table-said d xs (g .1) (g .2) (omega (arith, lines-names d xs, accepted-names d (o .0), g .1)) (version-small d (o .0))
+    table-said d (lineAt (readOf d .descriptor)) xs (g .1) (g .2) (omega (arith, lines-names d xs, accepted-names d (o .0), g .1)) (version-small d (o .0))
     (subst (OfTable d) (g .0) (built-written d (o .0) t (o .1)))
 
 pub said-fits : (d : List ℕ) (c : Command) → length d ≤ mostInput → Asked c → length (said d c) ≤ answerMost (length d)

@@ -23,7 +23,7 @@ use Rattle.maps.specs.Place.{sizeOf}
 use Rattle.theorems.specs.Looks.{looks, Finds, FewLooks}
 use Rattle.text.proofs.Flat.{by-test}
 use Rattle.theorems.proofs.Orders.{three-ways}
-use Rattle.theorems.specs.Rows.{Builds, rowAt}
+use Rattle.theorems.specs.Rows.{Builds, rowAt, lineAt}
 use Rattle.theorems.proofs.Built.{tableIn, table-laid, length-laid}
 use Rattle.theorems.proofs.Places.{Held, held}
 use Rattle.theorems.proofs.Rows.{one-in, holds-true, true-holds, start-in, end-in, rows-apart}
@@ -128,29 +128,29 @@ ends-found k (found i n) e = rw e
 ends-found k (nowhere n) e = absurd e
 
 -- on a table of extents the search ends at the extent that holds the offset
-pub search-in : (xs : List VmdkParsedExtent) (o : ℕ) (k : Held 0 xs o) → searchOf (tableIn xs) o ≡ found (k .nth) (looks (searchOf (tableIn xs) o))
+pub search-in : (ln : ℕ → ℕ) (xs : List VmdkParsedExtent) (o : ℕ) (k : Held 0 xs o) → searchOf (tableIn ln xs) o ≡ found (k .nth) (looks (searchOf (tableIn ln xs) o))
 unfolding searchOf
-search-in xs o k =
-    let t = tableIn xs in
+search-in ln xs o k =
+    let t = tableIn ln xs in
     let n = k .nth in
-    let c : t .count ≡ length xs = length-laid 0 xs in
-    let s = start-in xs n (k .below) in
-    let e = end-in xs n (k .below) in
+    let c : t .count ≡ length xs = length-laid ln 0 xs in
+    let s = start-in ln xs n (k .below) in
+    let e = end-in ln xs n (k .below) in
     ends-found n (halve (t .count) (t .rows) 0 (t .count) o)
     (halve-ends (t .rows) o n (t .count)
-    (λ j h. omega (arith, rows-apart xs j n h (k .below)))
+    (λ j h. omega (arith, rows-apart ln xs j n h (k .below)))
     (true-holds (rowAt t n) o (omega arith) (omega arith))
-    (λ j h l. let l₂ : j < length xs = omega arith in let a = rows-apart xs n j h l₂ in (omega arith, omega (arith, start-in xs j l₂, end-in xs j l₂)))
+    (λ j h l. let l₂ : j < length xs = omega arith in let a = rows-apart ln xs n j h l₂ in (omega arith, omega (arith, start-in ln xs j l₂, end-in ln xs j l₂)))
     (t .count) 0 (t .count) (omega arith) (omega (arith, k .below)) (omega arith) (omega arith))
 
-finds-in : (xs : List VmdkParsedExtent) (o : ℕ) → o < sizeOf xs → Finds (tableIn xs) o
+finds-in : (ln : ℕ → ℕ) (xs : List VmdkParsedExtent) (o : ℕ) → o < sizeOf xs → Finds (tableIn ln xs) o
 unfolding searchOf
-finds-in xs o h =
-    let t = tableIn xs in
+finds-in ln xs o h =
+    let t = tableIn ln xs in
     let k = held 0 xs o h in
-    let s = search-in xs o k in
+    let s = search-in ln xs o k in
     let f = halve-found (t .count) (t .rows) 0 (t .count) o s in
-    let one = one-in xs o k in
+    let one = one-in ln xs o k in
     record { one = one; looked = looks (searchOf t o); search = s ∙ ap (λ (i : ℕ). found i (looks (searchOf t o))) (one .only (k .nth) (f .1) (f .2)) }
 
 -- a mapping counts what its search looked at
@@ -211,4 +211,4 @@ pub built-finds : (r : Record) (t : Table) → Builds r t → (o : ℕ) → o < 
 built-finds r t b o h =
     let g = table-laid r t b in
     let q : t .size .0 ≡ sizeOf (counted r) = ap (λ (t : Table). t .size .0) (g .0) in
-    subst (λ (t : Table). Finds t o) (sym (g .0)) (finds-in (counted r) o (omega arith))
+    subst (λ (t : Table). Finds t o) (sym (g .0)) (finds-in (lineAt r) (counted r) o (omega arith))

@@ -1,3 +1,4 @@
+pub mod Alike
 pub mod BeforeLines
 pub mod Built
 pub mod Continuing
@@ -34,6 +35,7 @@ pub mod Routes
 pub mod Rows
 pub mod RuledOut
 pub mod Sayings
+pub mod SaidLines
 pub mod SecondNumbers
 pub mod Sequences
 pub mod Shared

@@ -1,11 +1,9 @@
--- A line says at most one extent, so the i-th line that says one says the i-th of the extents; both ways by recursion on the lines.
--- A row has its extent's source, and so that line's.
-use Prim.Native.Nat.{ℕ, zero, suc, _+_, _<_}
+-- The i-th line that says an extent says the i-th of the extents, and a row has its extent's source and line, so those are that line's.
+use Prim.Native.Nat.{ℕ, suc, _+_, _<_}
 use native.Mathlib.Omega.{arith}
-use mathlib.Core.List.{List, [], _∷_, _++_, append-assoc}
+use mathlib.Core.List.{List, [], _∷_, _++_}
 use mathlib.Core.Path.{_≡_, refl, sym, ap, _∙_}
-use lib.ListN.{length, getD, length-append}
-use lib.Seq.{getD-append-seam}
+use lib.ListN.{length, getD}
 use lib.Dec.{eqb}
 use borrow.Author.Tests.{eq-eqb}
 use Rattle.text.specs.Lines.{linesOf, count}
@@ -13,12 +11,13 @@ use Rattle.text.specs.Text.{trimmed}
 use Rattle.text.specs.declared.sector.Bytes.{Bytes}
 use Rattle.text.specs.declared.sector.Sectors.{Sectors}
 use Rattle.text.proofs.Flat.{by-test}
-use Rattle.lines.specs.Record.{noExtent, counted}
+use Rattle.lines.specs.Record.{noExtent, noRead, counted}
 use Rattle.lines.specs.Line.{lineOf}
-use Rattle.lines.specs.declared.line.Said.{Said}
-use Rattle.lines.specs.declared.line.Said.the-variants.{Nothing, Extent, Set, Refused}
+use Rattle.lines.specs.declared.line.Said.the-variants.{Extent}
 use Rattle.lines.specs.declared.record.Text.{Text}
 use Rattle.lines.specs.declared.record.Verdict.the-variants.{Sound}
+use Rattle.lines.specs.declared.record.ReadExtent.{ReadExtent}
+use Rattle.lines.specs.declared.record.Record.{Record}
 use Rattle.lines.specs.declared.record.VmdkAccessType.{VmdkAccessType}
 use Rattle.lines.specs.declared.record.VmdkParsedExtent.{VmdkParsedExtent}
 use Rattle.lines.specs.declared.record.VmdkParsedStorage.{VmdkParsedStorage}
@@ -26,12 +25,14 @@ use Rattle.lines.specs.declared.record.VmdkParsedStorage.the-variants.{NoAccess
 use Rattle.descriptor.specs.Read.{readOf}
 use Rattle.tables.specs.declared.table.Source.the-variants.{Flat as File}
 use Rattle.tables.specs.declared.table.Table.{Table}
+use Rattle.maps.specs.Alike.{SameTable}
 use Rattle.maps.specs.Place.{bytesIn}
-use Rattle.theorems.specs.Statements.{placeAfter, sayings, sayingsOf, extentsIn, LineAt, Quotes, textIn}
+use Rattle.theorems.specs.Statements.{placeAfter, sayings, sayingsOf, extentsIn, readFrom, LineAt, Quotes, textIn}
 use Rattle.theorems.specs.Rows.{Builds, sourceOf, rowAt, InRows}
-use Rattle.theorems.specs.NamedPlaces.{upTo, behind, inQuotes, FromLine, nameAt}
-use Rattle.theorems.proofs.Sayings.{extents-cons, extents-more}
-use Rattle.theorems.proofs.Verdicts.{accepted-extents}
+use Rattle.theorems.specs.NamedPlaces.{upTo, behind, inQuotes, ExtentFrom, FromLine, nameAt}
+use Rattle.theorems.proofs.Sayings.{read-length}
+use Rattle.theorems.proofs.SaidLines.{said-at, said-below, Says, says-in, said-extent, said-line, only-one, read-rises}
+use Rattle.theorems.proofs.Verdicts.{accepted-checked, accepted-read, accepted-extents}
 use Rattle.theorems.proofs.LinePlaces.{Lies, lies}
 use Rattle.theorems.proofs.ExtentLines.{extent-says, file-named}
 use Rattle.theorems.proofs.Rows.{built-in-rows}
@@ -67,101 +68,33 @@ source-names d p l i s (Zero b) h a start name e = let z : _≡_ {A = ℕ} 0 1 =
 source-names d p l i s (Flat b named sector) h a start name e =
     let q : named ≡ name = cc in rw (← q) (line-names d p l i s b named sector h)
 
--- ---- the extents that lines say
--- those of some lines, and then those of the lines after them
-said-append : (p : ℕ) (before ls : List (List ℕ)) → extentsIn (sayings p (before ++ ls)) ≡ extentsIn (sayings p before) ++ extentsIn (sayings (placeAfter p before) ls)
-unfolding sayings placeAfter extentsIn
-said-append p [] ls = refl
-said-append p (l ∷ before) ls =
-    let n : ℕ = p + length l + 1 in
-    rw (extents-cons (lineOf p l) (sayings n (before ++ ls)), extents-cons (lineOf p l) (sayings n before), said-append n before ls, append-assoc)
+-- ---- the extents that are read
+module _ (d : List ℕ) (a : readOf d .verdict ≡ Sound) where
+  read-count : readOf d .descriptor .count ≡ length (extentsIn (sayingsOf d))
+  read-count = ap (λ (x : Record). x .count) (accepted-checked d a .1) ∙ read-length 1 (sayingsOf d)
 
-said-first : (p : ℕ) (l : List ℕ) (ls : List (List ℕ)) (x : VmdkParsedExtent) → lineOf p l ≡ Extent x → extentsIn (sayings p (l ∷ ls)) ≡ x ∷ extentsIn (sayings (p + length l + 1) ls)
-unfolding sayings extentsIn
-said-first p l ls x h = rw h
-
--- a line that says an extent, among the others
-module _ (p : ℕ) (before : List (List ℕ)) (l : List ℕ) (after : List (List ℕ)) (x : VmdkParsedExtent) (h : lineOf (placeAfter p before) l ≡ Extent x) where
-  said-split : extentsIn (sayings p (before ++ l ∷ after)) ≡ extentsIn (sayings p before) ++ x ∷ extentsIn (sayings (placeAfter p before + length l + 1) after)
-  said-split = said-append p before (l ∷ after) ∙ ap (_++_ (extentsIn (sayings p before))) (said-first (placeAfter p before) l after x h)
-
-  said-at : getD (extentsIn (sayings p (before ++ l ∷ after))) (length (extentsIn (sayings p before))) noExtent ≡ x
-  said-at = rw said-split (getD-append-seam (extentsIn (sayings p before)) x _ noExtent)
-
-  said-below : length (extentsIn (sayings p before)) < length (extentsIn (sayings p (before ++ l ∷ after)))
-  said-below = rw said-split (simp length-append (omega arith))
-
--- the line that says an extent after i others
-record Says (p : ℕ) (ls : List (List ℕ)) (i : ℕ) : Type 0 where
-  before : List (List ℕ)
-  line : List ℕ
-  after : List (List ℕ)
-  lines : ls ≡ before ++ line ∷ after
-  extent : VmdkParsedExtent
-  says : lineOf (placeAfter p before) line ≡ Extent extent
-  nth : length (extentsIn (sayings p before)) ≡ i
-
-module _ (p : ℕ) (l : List ℕ) (ls : List (List ℕ)) where
-  abbrev next : ℕ
-  next = p + length l + 1
-
-  says-here : (x : VmdkParsedExtent) → lineOf p l ≡ Extent x → Says p (l ∷ ls) 0
-  unfolding placeAfter sayings extentsIn
-  says-here x h = record { before = []; line = l; after = ls; lines = refl; extent = x; says = h; nth = refl }
-
-  says-later : (j i : ℕ) → length (extentsIn (lineOf p l ∷ [])) + j ≡ i → Says next ls j → Says p (l ∷ ls) i
-  unfolding placeAfter sayings
-  says-later j i h s =
+  -- extent i is said by the i-th line that says one, and has its number
+  pub extent-from : (i : ℕ) → i < readOf d .descriptor .count → ExtentFrom d (readOf d .descriptor) i
+  extent-from i h =
+      let s = says-in 0 (linesOf d) i (omega (arith, h, read-count)) in
+      let e : getD (extentsIn (sayingsOf d)) i noExtent ≡ s .extent = said-extent (linesOf d) i s in
       record {
-        before = l ∷ s .before;
+        before = s .before;
         line = s .line;
-        after = s .after;
-        lines = rw (s .lines);
-        extent = s .extent;
-        says = s .says;
-        nth = let q = s .nth in omega (arith, extents-more (lineOf p l) (sayings next (s .before)));
+        place = placeAfter 0 (s .before);
+        number = suc (length (s .before));
+        there = record { after = s .after; lines = s .lines; place = refl; number = refl };
+        nth = sym (s .nth);
+        says = s .says ∙ ap Extent (sym e ∙ ap (λ (xs : List VmdkParsedExtent). getD xs i noExtent) (sym (accepted-extents d a)));
+        lined = ap (λ (xs : List ReadExtent). getD xs i noRead .line) (accepted-read d a) ∙ said-line (linesOf d) i s;
       }
-
-  says-by : (s : Said) → lineOf p l ≡ s → (i : ℕ) → i < length (extentsIn (s ∷ sayings next ls)) → ((j : ℕ) → j < length (extentsIn (sayings next ls)) → Says next ls j) → Says p (l ∷ ls) i
-  unfolding extentsIn
-  says-by Nothing e i h f = says-later i i (rw e (omega arith)) (f i h)
-  says-by (Set v) e i h f = says-later i i (rw e (omega arith)) (f i h)
-  says-by (Refused n) e i h f = says-later i i (rw e (omega arith)) (f i h)
-  says-by (Extent x) e zero h f = says-here x e
-  says-by (Extent x) e (suc i) h f = says-later i (suc i) (rw e (omega arith)) (f i (omega arith))
-
-says-in : (p : ℕ) (ls : List (List ℕ)) (i : ℕ) → i < length (extentsIn (sayings p ls)) → Says p ls i
-unfolding sayings extentsIn
-says-in p [] i h = absurd (omega arith)
-says-in p (l ∷ ls) i h = says-by p l ls (lineOf p l) refl i h (λ j k. says-in (p + length l + 1) ls j k)
-
--- there is no other
-only-one : (p : ℕ) (ls a b : List (List ℕ)) (l m : List ℕ) (ra rb : List (List ℕ)) (x y : VmdkParsedExtent) → ls ≡ a ++ l ∷ ra → ls ≡ b ++ m ∷ rb → lineOf (placeAfter p a) l ≡ Extent x → lineOf (placeAfter p b) m ≡ Extent y → length (extentsIn (sayings p a)) ≡ length (extentsIn (sayings p b)) → length a ≡ length b
-unfolding placeAfter sayings extentsIn
-only-one p ls [] [] l m ra rb x y e f h k n = refl
-only-one p ls [] (v ∷ b) l m ra rb x y e f h k n =
-    let q : l ≡ v = cc in
-    let g : extentsIn (sayings p (v ∷ b)) ≡ x ∷ extentsIn (sayings (p + length v + 1) b) = said-first p v b x (rw (← q) h) in
-    absurd (omega (arith, ap length g))
-only-one p ls (u ∷ a) [] l m ra rb x y e f h k n =
-    let q : u ≡ m = cc in
-    let g : extentsIn (sayings p (u ∷ a)) ≡ y ∷ extentsIn (sayings (p + length u + 1) a) = said-first p u a y (rw q k) in
-    absurd (omega (arith, ap length g))
-only-one p ls (u ∷ a) (v ∷ b) l m ra rb x y e f h k n =
-    let q : u ≡ v = cc in
-    let t : a ++ l ∷ ra ≡ b ++ m ∷ rb = cc in
-    let i : lineOf (placeAfter (p + length u + 1) b) m ≡ Extent y = rw q k in
-    let n₂ : length (extentsIn (lineOf p u ∷ sayings (p + length u + 1) a)) ≡ length (extentsIn (lineOf p u ∷ sayings (p + length u + 1) b)) = n ∙ rw q in
-    let j : length (extentsIn (sayings (p + length u + 1) a)) ≡ length (extentsIn (sayings (p + length u + 1) b)) =
-    omega (arith, extents-more (lineOf p u) (sayings (p + length u + 1) a), extents-more (lineOf p u) (sayings (p + length u + 1) b)) in
-    ap suc (only-one (p + length u + 1) (a ++ l ∷ ra) a b l m ra rb x y refl t h i j)
 
 -- ---- the rows
 module _ (d : List ℕ) (t : Table) (a : readOf d .verdict ≡ Sound) (b : Builds (readOf d .descriptor) t) where
   abbrev rows : InRows (readOf d .descriptor) t
   rows = built-in-rows (readOf d .descriptor) t b
 
-  said-count : t .count ≡ length (extentsIn (sayingsOf d))
+  pub said-count : t .count ≡ length (extentsIn (sayingsOf d))
   said-count = rows .count ∙ ap length (accepted-extents d a)
 
   -- the row of a line that says an extent
@@ -184,8 +117,12 @@ module _ (d : List ℕ) (t : Table) (a : readOf d .verdict ≡ Sound) (b : Build
     row-long : rowAt t row .end .0 ≡ rowAt t row .start .0 + bytesIn x
     row-long = rows .long row row-below ∙ rw row-extent
 
-  from-says : (i : ℕ) → Says 0 (linesOf d) i → FromLine d t i
-  from-says i s =
+  -- its line
+  row-line : (i : ℕ) → i < t .count → rowAt t i .line ≡ getD (readFrom 1 (sayingsOf d)) i noRead .line
+  row-line i h = rows .lines i h ∙ ap (λ (xs : List ReadExtent). getD xs i noRead .line) (accepted-read d a)
+
+  from-says : (i : ℕ) → i < t .count → Says 0 (linesOf d) i → FromLine d t i
+  from-says i b s =
       let p : ℕ = placeAfter 0 (s .before) in
       let at : LineAt d (s .before) (s .line) p (suc (length (s .before))) =
       record { after = s .after; lines = s .lines; place = refl; number = refl } in
@@ -204,6 +141,7 @@ module _ (d : List ℕ) (t : Table) (a : readOf d .verdict ≡ Sound) (b : Build
         words = extent-says d p (s .line) x l (s .says);
         long = rw (← s .nth) (row-long (s .before) (s .line) p _ at x (s .says));
         source = source;
+        lined = row-line i b ∙ said-line (linesOf d) i s;
         named = λ acc start name e. source-names d p (s .line) l (x .sectors) (x .storage) (s .says) acc start name (sym source ∙ e);
         only = λ before′ l′ q k y there h n.
             let g : length before′ ≡ length (s .before) = only-one 0 (linesOf d) before′ (s .before) l′ (s .line) (there .after) (s .after) y x (there .lines) (s .lines) (rw (← there .place) h) (s .says) (n ∙ sym (s .nth)) in
@@ -212,9 +150,35 @@ module _ (d : List ℕ) (t : Table) (a : readOf d .verdict ≡ Sound) (b : Build
 
   -- row i is the i-th line that says an extent
   pub from-line : (i : ℕ) → i < t .count → FromLine d t i
-  from-line i h = from-says i (says-in 0 (linesOf d) i (omega (arith, said-count)))
+  from-line i h = from-says i h (says-in 0 (linesOf d) i (omega (arith, said-count)))
 
   -- the name of its row, of a line that says a flat extent
   pub row-name : (before : List (List ℕ)) (l : List ℕ) (p k : ℕ) → LineAt d before l p k → (s : Sectors) (acc : VmdkAccessType) (name : Text) (start : Sectors) → lineOf p l ≡ Extent (record { sectors = s; storage = Flat acc name start }) → nameAt d t (length (extentsIn (sayings 0 before))) ≡ trimmed (inQuotes l)
   row-name before l p k at s acc name start h =
       rw (row-source before l p k at (record { sectors = s; storage = Flat acc name start }) h) (line-names d p l (lies d before l p k at) s acc name start h)
+
+  -- lines rise strictly over the rows
+  pub lines-rise : (i j : ℕ) → i < j → j < t .count → rowAt t i .line < rowAt t j .line
+  lines-rise i j l h =
+      rw (row-line i (omega arith), row-line j h) (read-rises 1 (sayingsOf d) i j l (omega (arith, said-count, read-length 1 (sayingsOf d))))
+
+-- ---- the same of the same table, with other places past the count
+pub from-same : (d : List ℕ) (s t : Table) → SameTable s t → (i : ℕ) → i < s .count → FromLine d t i → FromLine d s i
+from-same d s t same i l w =
+    let row = same .alike .rows i l in
+    record {
+      before = w .before;
+      line = w .line;
+      place = w .place;
+      number = w .number;
+      there = w .there;
+      nth = w .nth;
+      extent = w .extent;
+      says = w .says;
+      words = w .words;
+      lined = same .lines i l ∙ w .lined;
+      long = ap (λ (b : Bytes). b .0) (row .end) ∙ w .long ∙ ap (λ (b : Bytes). b .0 + bytesIn (w .extent)) (sym (row .start));
+      source = row .source ∙ w .source;
+      named = λ a start name e. w .named a start name (sym (row .source) ∙ e);
+      only = w .only;
+    }

@@ -17,7 +17,7 @@ use Rattle.lines.specs.declared.record.VmdkParsedStorage.the-variants.{NoAccess
 use Rattle.tables.specs.declared.table.Table.{Table}
 use Rattle.maps.specs.Map.{sourced, inRow, searchOf, mapOf}
 use Rattle.maps.specs.Place.{past, within, bytesIn, sizeOf, placeOf}
-use Rattle.theorems.specs.Rows.{Builds, sourceOf}
+use Rattle.theorems.specs.Rows.{Builds, sourceOf, lineAt}
 use Rattle.theorems.specs.Looks.{looks}
 use Rattle.theorems.specs.Maps.{restOf, shown, runAt, MapsBy}
 use Rattle.text.proofs.Flat.{by-test}
@@ -39,12 +39,12 @@ not-past NoAccess i o e = let z : _≡_ {A = ℕ} 0 1 = cc in omega arith
 not-past (Zero a) i o e = let z : _≡_ {A = ℕ} 0 1 = cc in omega arith
 not-past (Flat a name start) i o e = let z : _≡_ {A = ℕ} 0 1 = cc in omega arith
 
-module _ (xs : List VmdkParsedExtent) (o asked : ℕ) (short : length xs ≤ most) where
+module _ (ln : ℕ → ℕ) (xs : List VmdkParsedExtent) (o asked : ℕ) (short : length xs ≤ most) where
   abbrev t : Table
-  t = tableIn xs
+  t = tableIn ln xs
 
   few : t .count ≤ most
-  few = omega (arith, length-laid 0 xs)
+  few = omega (arith, length-laid ln 0 xs)
 
   maps-end : sizeOf xs ≤ o → MapsBy xs t o asked
   unfolding mapOf placeOf
@@ -56,8 +56,8 @@ module _ (xs : List VmdkParsedExtent) (o asked : ℕ) (short : length xs ≤ mos
   map-held : o < sizeOf xs → (k : Held 0 xs o) → mapOf t o asked ≡ sourced (sourceOf (getD xs (k .nth) noExtent .storage)) (k .nth) (o - sizeOf (take (k .nth) xs)) (min asked (restOf xs o)) (looks (searchOf t o))
   unfolding mapOf inRow
   map-held h k =
-      let least : min asked (min (sizeOf xs - o) (sizeOf (take (k .nth) xs) + bytesIn (getD xs (k .nth) noExtent) - o)) ≡ min asked (restOf xs o) = omega (arith, size-upto xs (k .nth) (k .below), k .rest) in
-      rw (le-leb (t .count) most few, lt-leb (sizeOf xs) o h, search-in xs o k, row-in xs (k .nth) (k .below), least)
+      let least : min asked (min (sizeOf xs - o) (sizeOf (take (k .nth) xs) + bytesIn (getD xs (k .nth) noExtent) - o)) ≡ min asked (restOf xs o) = omega (arith, size-upto ln xs (k .nth) (k .below), k .rest) in
+      rw (le-leb (t .count) most few, lt-leb (sizeOf xs) o h, search-in ln xs o k, row-in ln xs (k .nth) (k .below), least)
 
   maps-held : o < sizeOf xs → Held 0 xs o → MapsBy xs t o asked
   unfolding placeOf
@@ -68,7 +68,7 @@ module _ (xs : List VmdkParsedExtent) (o asked : ℕ) (short : length xs ≤ mos
       record { end = (λ q. absurd (not-past (getD xs (k .nth) noExtent .storage) _ _ (sym p ∙ q)), beyond 0 xs o); mapping = rw (map-held h k, p) (s .0); run = rw (map-held h k, p) (s .1) }
 
   -- mapping a table of extents equals their places
-  pub maps-in : MapsBy xs (tableIn xs) o asked
+  pub maps-in : MapsBy xs (tableIn ln xs) o asked
   maps-in =
       by-test (leb (sizeOf xs) o)
       (λ e. maps-end (leb-true _ _ e))
@@ -77,4 +77,4 @@ module _ (xs : List VmdkParsedExtent) (o asked : ℕ) (short : length xs ≤ mos
 -- mapping a built table equals the places of its record's extents
 pub built-maps : (r : Record) (t : Table) → Builds r t → (o asked : ℕ) → MapsBy (counted r) t o asked
 built-maps r t b o asked =
-    let g = table-laid r t b in subst (λ (t : Table). MapsBy (counted r) t o asked) (sym (g .0)) (maps-in (counted r) o asked (g .1))
+    let g = table-laid r t b in subst (λ (t : Table). MapsBy (counted r) t o asked) (sym (g .0)) (maps-in (lineAt r) (counted r) o asked (g .1))

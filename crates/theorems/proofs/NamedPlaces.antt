@@ -29,7 +29,7 @@ use Rattle.tables.specs.declared.table.PieceSource.{PieceSource}
 use Rattle.tables.specs.declared.table.PieceSource.the-variants.{Zero as ZeroPiece, Raw as RawPiece}
 use Rattle.tables.specs.declared.table.ShallowMapping.{ShallowMapping}
 use Rattle.tables.specs.declared.table.ShallowMapping.the-variants.{Eof, Zero as ZeroAt, Raw, Refused}
-use Rattle.maps.specs.Alike.{SameDisk}
+use Rattle.maps.specs.Alike.{AlikeTables}
 use Rattle.maps.specs.Map.{mapOf}
 use Rattle.maps.specs.Place.{Place, past as end, locked as lockedBy, zeros as zerosBy, file as fileBy, within, bytesIn, placeFrom, placeOf}
 use Rattle.maps.specs.Walk.{Walk}
@@ -128,7 +128,7 @@ due-far (file name f w) = (
 )
 
 -- ---- of a table u of the same disk as the one that a descriptor builds
-module _ (d : List ℕ) (u t : Table) (same : SameDisk u t) (a : readOf d .verdict ≡ Sound) (b : Builds (readOf d .descriptor) t) where
+module _ (d : List ℕ) (u t : Table) (same : AlikeTables u t) (a : readOf d .verdict ≡ Sound) (b : Builds (readOf d .descriptor) t) where
   row-names : Names (nameAt d u) 0 0 (linesOf d)
   row-names before l after q s acc name start h =
       let i : ℕ = length (extentsIn (sayings 0 before)) in

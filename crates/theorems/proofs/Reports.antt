@@ -20,7 +20,7 @@ use Rattle.keys.specs.Key.{geometryKey, keyOf}
 use Rattle.lines.specs.Kept.{keptAt, keptOf, unquotedOf}
 use Rattle.lines.specs.Extent.{secondOf, thirdOf, threeWords, fileNameOf, fileStartOf, flatLine, noAccessLine, extentLine}
 use Rattle.lines.specs.Line.{versionOf, geometryOf, geometryLine, valueOf, keyLine, accessWord as wordOfAccess, accessLine, textLine, lineOf}
-use Rattle.lines.specs.Record.{filled, counted}
+use Rattle.lines.specs.Record.{filled, readIn, bare}
 use Rattle.lines.specs.declared.record.Text.{Text}
 use Rattle.lines.specs.declared.record.Refusal.{Refusal}
 use Rattle.lines.specs.declared.record.Verdict.{Verdict}
@@ -46,7 +46,7 @@ use Rattle.theorems.specs.Reports.{reportDue, unended, RefusedBy, Opens,
 
 -- ---- the report of document 01
 pub report-computes : (reportOf (lines report) ≡ lines reportDue) × (reportOf (unended report) ≡ lines reportDue)
-unfolding reportOf joinLines sectorsOf leadOf tailOf charOf blank textFrom textAt sound dropBlanks lastEnd trimText trimOf trimmed runText runOf wordOf findFrom findAt same begins stripOf allDigits value digitsOf digitsAt signOf numberOf linesOf geometryKey keyOf keptAt keptOf unquotedOf secondOf thirdOf threeWords fileNameOf fileStartOf flatLine noAccessLine extentLine versionOf geometryOf geometryLine valueOf keyLine wordOfAccess accessLine textLine lineOf setOf sizesFrom checked readLines readOf probeKey probeOne probeLines probeOf bytesOf filled counted rowsFrom buildOf digitsIn decimalOf spaced ended line linesFrom linesTo nameIn refusedLine openOf probeLine rowLine headLines tableLines
+unfolding reportOf joinLines sectorsOf leadOf tailOf charOf blank textFrom textAt sound dropBlanks lastEnd trimText trimOf trimmed runText runOf wordOf findFrom findAt same begins stripOf allDigits value digitsOf digitsAt signOf numberOf linesOf geometryKey keyOf keptAt keptOf unquotedOf secondOf thirdOf threeWords fileNameOf fileStartOf flatLine noAccessLine extentLine versionOf geometryOf geometryLine valueOf keyLine wordOfAccess accessLine textLine lineOf setOf sizesFrom checked readLines readOf probeKey probeOne probeLines probeOf bytesOf filled readIn bare rowsFrom buildOf digitsIn decimalOf spaced ended line linesFrom linesTo nameIn refusedLine openOf probeLine rowLine headLines tableLines
 report-computes = (refl, refl)
 
 pub empty-computes : reportOf [] ≡ lines ("probe no" ∷ "refused 1 0" ∷ [])

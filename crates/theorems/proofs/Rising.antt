@@ -19,7 +19,7 @@ use Rattle.tables.specs.declared.table.ShallowMapping.the-variants.{Eof, Zero, 
 use Rattle.maps.specs.Map.{mapOf}
 use Rattle.maps.specs.Place.{bytesIn, sizeOf}
 use Rattle.maps.specs.Walk.{Walk, zeroPiece, rawPiece, step, walkFrom, walkOf}
-use Rattle.theorems.specs.Rows.{Builds, rowAt}
+use Rattle.theorems.specs.Rows.{Builds, rowAt, lineAt}
 use Rattle.theorems.specs.Tiling.{All, Rise, rowsOf}
 use Rattle.text.proofs.Flat.{by-test}
 use Rattle.theorems.proofs.Built.{Numbers, tableIn, table-laid, length-laid}
@@ -107,30 +107,30 @@ unfolding sizeOf
 size-numbers start [] h n = omega arith
 size-numbers start (x ∷ xs) h n = omega (arith, size-numbers (start + bytesIn x) xs (n .0) (n .2))
 
-module _ (xs : List VmdkParsedExtent) where
-  pub count-is : tableIn xs .count ≡ length xs
-  count-is = length-laid 0 xs
+module _ (ln : ℕ → ℕ) (xs : List VmdkParsedExtent) where
+  pub count-is : tableIn ln xs .count ≡ length xs
+  count-is = length-laid ln 0 xs
 
-  ends-rise : EndsRise (tableIn xs)
+  ends-rise : EndsRise (tableIn ln xs)
   ends-rise j k h l =
-      let i : k < length xs = omega (arith, count-is) in omega (arith, rows-apart xs j k h i, start-in xs k i, end-in xs k i)
+      let i : k < length xs = omega (arith, count-is) in omega (arith, rows-apart ln xs j k h i, start-in ln xs k i, end-in ln xs k i)
 
   module _ (few : length xs ≤ most) (n : Numbers 0 xs) where
-    pub size-small : tableIn xs .size .0 ≤ largest
+    pub size-small : tableIn ln xs .size .0 ≤ largest
     size-small = omega (arith, size-numbers 0 xs (omega arith) n)
 
-    pub table-rises : (places pos left : ℕ) → Rising (tableIn xs) 0 (walkOf (tableIn xs) places pos left .pieces)
+    pub table-rises : (places pos left : ℕ) → Rising (tableIn ln xs) 0 (walkOf (tableIn ln xs) places pos left .pieces)
     table-rises places pos left =
-        rw (walk-of (tableIn xs) places pos left (omega (arith, count-is)))
-        (walk-rises (tableIn xs) ends-rise size-small (omega (arith, count-is)) (min places most) pos left 0 (λ j l. absurd (omega arith)))
+        rw (walk-of (tableIn ln xs) places pos left (omega (arith, count-is)))
+        (walk-rises (tableIn ln xs) ends-rise size-small (omega (arith, count-is)) (min places most) pos left 0 (λ j l. absurd (omega arith)))
 
-    pub table-stops : (places pos left : ℕ) → pos ≤ largest → StopsWell (walkOf (tableIn xs) places pos left)
+    pub table-stops : (places pos left : ℕ) → pos ≤ largest → StopsWell (walkOf (tableIn ln xs) places pos left)
     table-stops places pos left h =
-        rw (walk-of (tableIn xs) places pos left (omega (arith, count-is)))
-        (walk-stops (tableIn xs) ends-rise size-small (omega (arith, count-is)) (min places most) pos left h)
+        rw (walk-of (tableIn ln xs) places pos left (omega (arith, count-is)))
+        (walk-stops (tableIn ln xs) ends-rise size-small (omega (arith, count-is)) (min places most) pos left h)
 
 -- the rows of a walk over a built table
 pub built-rises : (r : Record) (t : Table) → Builds r t → (places pos left : ℕ) → Rise 0 (rowsOf (walkOf t places pos left .pieces))
 built-rises r t b places pos left =
     let g = table-laid r t b in
-    subst (λ (t : Table). Rise 0 (rowsOf (walkOf t places pos left .pieces))) (sym (g .0)) (table-rises (counted r) (g .1) (g .2) places pos left .0)
+    subst (λ (t : Table). Rise 0 (rowsOf (walkOf t places pos left .pieces))) (sym (g .0)) (table-rises (lineAt r) (counted r) (g .1) (g .2) places pos left .0)

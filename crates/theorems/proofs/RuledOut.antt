@@ -15,7 +15,7 @@ use Rattle.text.specs.Sector.{largest}
 use Rattle.text.specs.Text.{trimmed}
 use Rattle.text.specs.declared.sector.Bytes.{Bytes}
 use Rattle.lines.specs.Line.{lineOf}
-use Rattle.lines.specs.Record.{most, filled, mostBytes, noText, noExtent, descOf, noDesc, noRecord, recordOf, counted, refusal}
+use Rattle.lines.specs.Record.{most, filled, mostBytes, noText, noExtent, atLine, descOf, noDesc, noRecord, recordOf, readIn, counted, refusal}
 use Rattle.lines.specs.declared.line.Said.{Said}
 use Rattle.lines.specs.declared.line.Said.the-variants.{Extent, Refused as Said·Refused}
 use Rattle.lines.specs.declared.record.Record.{Record}
@@ -26,6 +26,7 @@ use Rattle.lines.specs.declared.record.Verdict.the-variants.{Sound, Refused}
 use Rattle.lines.specs.declared.record.VmdkAccessType.{VmdkAccessType}
 use Rattle.lines.specs.declared.record.VmdkAccessType.the-variants.{RW}
 use Rattle.lines.specs.declared.record.VmdkDesc.{VmdkDesc}
+use Rattle.lines.specs.declared.record.ReadExtent.{ReadExtent}
 use Rattle.lines.specs.declared.record.VmdkParsedExtent.{VmdkParsedExtent}
 use Rattle.descriptor.specs.Into.{storedOf, readInto}
 use Rattle.tables.specs.Into.{buildInto}
@@ -41,7 +42,9 @@ use Rattle.tables.specs.declared.table.ShallowMapping.the-variants.{Eof, Raw, R
 use Rattle.tables.specs.declared.table.Source.the-variants.{Flat as File}
 use Rattle.tables.specs.declared.table.Stop.the-variants.{Done, Refused as Stopped}
 use Rattle.tables.specs.declared.table.Table.{Table}
-use Rattle.maps.specs.Map.{mapOf}
+use Rattle.maps.specs.Map.{ended, mapOf}
+use Rattle.lines.specs.Alike.{AlikeRecords}
+use Rattle.maps.specs.Alike.{AlikeTables}
 use Rattle.maps.specs.Place.{Reachable, sizeOf}
 use Rattle.maps.specs.Walk.{Walk, ends, rawPiece, noPiece, walkOf, listed}
 use Rattle.probing.specs.Probe.{probeOf}
@@ -64,13 +67,13 @@ use Rattle.theorems.specs.Tiling.{All, Rise, rowsOf}
 use Rattle.theorems.specs.GivenWhen.{Fault, faultNumber, When, FirstFault, OneMore, parent-hint, unknown-key}
 use Rattle.theorems.specs.NamedPlaces.{placeIn, seenBy, dueAt, PlacedBy, FromLine}
 use Rattle.theorems.specs.NamedCases.{joined}
-use Rattle.theorems.specs.Over.{SoundLines, SizeOver, SumOver, StartOver, FirstOver, StartsFit}
+use Rattle.theorems.specs.Over.{SoundLines, SizeOver, SumOver, StartOver, OverAt, StartsFit, OverIn}
 use Rattle.theorems.specs.Probing.{FirstSays}
 use Rattle.theorems.specs.Refusing.{NoAccessAt, FileOverAt, StopsWhere}
-use Rattle.theorems.specs.Rows.{Builds}
-use Rattle.theorems.specs.Statements.{ByLine, sayings, sayingsOf, extentsIn, AllSound, lastVersion, LineAt, FirstRefused, ExtentIn}
-use Rattle.theorems.proofs.Theorems.{lent-again, built-again, reading-leaves, building-leaves, probed-when, given-24, last-values, row-from-line, line-has-row, mapping-names, demand-3-names, walk-only-counted, extent-lines, walk-once, names-within, refused-alone, opened-written, flat-line, empty-name, too-long, short-enough, report-empty, number-digits, answer-most, answer-fits, program-fits, answer-whole, accepted-when, built-when, refused-no-table, sound-builds, joint-places, mapping-21, mapping-22, mapping-23, walk-refused, walk-21, walk-22, walk-23, given-1, given-2, given-3, given-5-to-15, given-16, given-17, given-18, given-19, line-faults, building-18, building-19, building-20, building-23, reading-numbers, building-numbers, mapping-numbers, walking-numbers}
-use Rattle.theorems.proofs.SmallInputs.{map-zero, not-zero, not-emptied, not-dropped, not-behind, small-long, many-refused, read-sound, small, disk, many, crowd, small-sound, small-builds, build-sound, map-sound, first-line, empty-says, small-rows, not-17, empty-refused, joined-opens, shifted, joined-table, joined-holds, wrong-file, not-seen, joined-reaches, no-steps, whole, nameless, zeros, zeros-long, line-written, no-line, refused-is, walk-written, not-kept, not-shifted, not-few, twice-long, not-there}
+use Rattle.theorems.specs.Rows.{Builds, rowAt, lineAt}
+use Rattle.theorems.specs.Statements.{ByLine, sayings, sayingsOf, extentsIn, readFrom, AllSound, lastVersion, LineAt, FirstRefused, ExtentIn}
+use Rattle.theorems.proofs.Theorems.{alike-builds, extent-from-line, extents-with-lines, lines-rise, alike-maps, alike-walks, lent-again, built-again, reading-leaves, building-leaves, probed-when, given-24, last-values, row-from-line, line-has-row, mapping-names, demand-3-names, walk-only-counted, extent-lines, walk-once, names-within, refused-alone, opened-written, flat-line, empty-name, too-long, short-enough, report-empty, number-digits, answer-most, answer-fits, program-fits, answer-whole, accepted-when, built-when, refused-no-table, sound-builds, joint-places, mapping-21, mapping-22, mapping-23, walk-refused, walk-21, walk-22, walk-23, given-1, given-2, given-3, given-5-to-15, given-16, given-17, given-18, given-19, line-faults, building-18, building-19, building-20, building-23, reading-numbers, building-numbers, mapping-numbers, walking-numbers}
+use Rattle.theorems.proofs.SmallInputs.{joined-read, moved, moved-alike, moved-disk, disks-alike, moved-rows, oversized, overfull, large, summed, far, not-oversized, not-overfull, not-large, not-summed, not-far, not-from-zero, map-zero, not-zero, not-emptied, not-dropped, not-behind, small-long, many-refused, read-sound, small, disk, many, crowd, small-sound, small-builds, build-sound, map-sound, first-line, empty-says, small-rows, not-17, empty-refused, joined-opens, shifted, joined-table, joined-holds, wrong-file, not-seen, joined-reaches, no-steps, whole, nameless, zeros, zeros-long, line-written, no-line, refused-is, walk-written, not-kept, not-shifted, not-few, twice-long, not-there}
 
 -- one answer meets a statement, and another does not
 abbrev Tells : {A : Type 0} → (A → Type 0) → A → A → Type 0
@@ -84,7 +87,7 @@ together p q h = p .1 (q .0 h)
 probed-when-tells : Tells (λ (probe : List ℕ → Bool). (d : List ℕ) → (probe d ≡ true) ↔ ((leastBytes ≤ length d) × (length d ≤ mostBytes) × ((begins d sparse ≡ true) ⊎ FirstSays (linesOf d)))) probeOf (λ d. true)
 probed-when-tells = (probed-when, λ s. absurd (omega (arith, s [] .0 refl .0)))
 
--- ---- reading: every descriptor accepted; every line one that says no access; every descriptor refused, with each number
+-- ---- reading: every descriptor accepted; every line one that says no access; every descriptor refused, with each number; 18 and 19 with the extent's number for its line
 accepted-when-tells : Tells (λ (read : List ℕ → Verdict). (d : List ℕ) → (read d ≡ Sound) ↔ (SoundLines d × (sizeOf (extentsIn (sayingsOf d)) ≤ largest))) (λ d. readOf d .verdict) (λ d. Sound)
 accepted-when-tells = (accepted-when, λ s. absurd (omega (arith, s [] .0 refl .0 .0 .least)))
 
@@ -114,24 +117,32 @@ given-16-tells = (given-16, λ s. read-sound 16 1 (together (given-16 joined 1) 
 given-17-tells : Tells (λ (read : List ℕ → Verdict). (d : List ℕ) (k : ℕ) → (read d ≡ refusal 17 k) ↔ (ByLine d × AllSound (sayingsOf d) × (within 1 3 (lastVersion (sayingsOf d)) ≡ false) × (k ≡ 0))) (λ d. readOf d .verdict) (λ d. refusal 17 0)
 given-17-tells = (given-17, λ s. read-sound 17 0 (together (given-17 joined 0) (s joined 0) refl))
 
-given-18-tells : Tells (λ (read : List ℕ → Verdict). (d : List ℕ) (i : ℕ) → (read d ≡ refusal 18 i) ↔ (SoundLines d × FirstOver SizeOver (extentsIn (sayingsOf d)) i)) (λ d. readOf d .verdict) (λ d. refusal 18 0)
-given-18-tells = (given-18, λ s. read-sound 18 0 (together (given-18 joined 0) (s joined 0) refl))
+given-18-tells : Tells (λ (read : List ℕ → Verdict). (d : List ℕ) (k : ℕ) → (read d ≡ refusal 18 k) ↔ (SoundLines d × OverAt SizeOver d k)) (λ d. readOf d .verdict) (λ d. refusal 18 0)
+given-18-tells = (given-18, λ s. not-oversized (together (given-18 oversized 0) (s oversized 0) refl))
 
-given-19-tells : Tells (λ (read : List ℕ → Verdict). (d : List ℕ) (i : ℕ) → (read d ≡ refusal 19 i) ↔ (SoundLines d × FirstOver SumOver (extentsIn (sayingsOf d)) i)) (λ d. readOf d .verdict) (λ d. refusal 19 0)
-given-19-tells = (given-19, λ s. read-sound 19 0 (together (given-19 joined 0) (s joined 0) refl))
+given-19-tells : Tells (λ (read : List ℕ → Verdict). (d : List ℕ) (k : ℕ) → (read d ≡ refusal 19 k) ↔ (SoundLines d × OverAt SumOver d k)) (λ d. readOf d .verdict) (λ d. refusal 19 1)
+given-19-tells = (given-19, λ s. not-overfull (together (given-19 overfull 1) (s overfull 1) refl))
 
 reading-numbers-tells : Tells (λ (read : List ℕ → Verdict). (d : List ℕ) (n k : ℕ) → read d ≡ refusal n k → (1 ≤ n) × (n ≤ 19)) (λ d. readOf d .verdict) (λ d. refusal 20 0)
 reading-numbers-tells = (reading-numbers, λ s. absurd (omega (arith, s [] 20 0 refl .1)))
 
 -- the whole descriptor for the name of each of two extents
-names-within-tells : Tells (λ (read : List ℕ → Record). (d : List ℕ) → readOf d .verdict ≡ Sound → total (nameBytes d) (counted (read d)) ≤ length d) (λ d. readOf d .descriptor) (λ d. recordOf noDesc (whole d ∷ whole d ∷ []))
+names-within-tells : Tells (λ (read : List ℕ → Record). (d : List ℕ) → readOf d .verdict ≡ Sound → total (nameBytes d) (counted (read d)) ≤ length d) (λ d. readOf d .descriptor) (λ d. recordOf noDesc (atLine 1 (whole d) ∷ atLine 2 (whole d) ∷ []))
 names-within-tells = (names-within, λ s. twice-long (s joined (joint-places .0)))
+
+-- the extent's number for its line; lines counted from 0
+extent-from-line-tells : Tells (λ (line : List ℕ → ℕ → ℕ). (d : List ℕ) (a : readOf d .verdict ≡ Sound) (i : ℕ) (h : i < readOf d .descriptor .count) → line d i ≡ extent-from-line d a i h .number) (λ d i. lineAt (readOf d .descriptor) i) (λ d i. i)
+extent-from-line-tells =
+    (λ d a i h. extent-from-line d a i h .lined, λ s. let h = joined-read in absurd (omega (arith, s joined (joint-places .0) 0 h, extent-from-line joined (joint-places .0) 0 h .there .number)))
+
+extents-with-lines-tells : Tells (λ (read : List ℕ → Record). (d : List ℕ) → readOf d .verdict ≡ Sound → readIn (read d) ≡ readFrom 1 (sayingsOf d)) (λ d. readOf d .descriptor) (λ d. recordOf noDesc (readFrom 0 (sayingsOf d)))
+extents-with-lines-tells = (extents-with-lines, λ s. not-from-zero (s joined (joint-places .0)))
 
 -- an empty text that is kept elsewhere than at place 0
 last-values-tells : Tells (λ (values : List ℕ → VmdkDesc). (d : List ℕ) (i : Item) → readOf d .verdict ≡ Sound → LastSaid d i (heldIn (values d) i)) (λ d. readOf d .descriptor .desc) (λ d. descOf 1 (record { place = 5; length = 0 }) noText noText 0 0 0)
 last-values-tells = (last-values, λ s. not-kept (s joined cid (joint-places .0)))
 
--- ---- building: every record built, a row left by a refused build, a table that is larger, and every record refused
+-- ---- building: every record built, a row left by a refused build, a table that is larger, 18 to 20 with the extent's number for its line, and every record refused with 23
 built-when-tells : Tells (λ (build : Record → Verdict). (r : Record) → (build r ≡ Sound) ↔ ((r .count ≤ most) × (sizeOf (counted r) ≤ largest) × StartsFit (counted r))) (λ r. buildOf r .verdict) (λ r. Sound)
 built-when-tells = (built-when, λ s. absurd (omega (arith, s many .0 refl .0)))
 
@@ -143,19 +154,19 @@ sound-builds-tells : Tells (λ (table : Record → Table). (r : Record) → buil
 sound-builds-tells =
     (sound-builds, λ s. let e = ap (λ (b : Built). b .table .count) (sym small-builds ∙ s small small-sound) in let n = small-rows in absurd (omega (arith, e, n)))
 
-building-18-tells : Tells (λ (build : Record → Verdict). (r : Record) (i : ℕ) → (build r ≡ refusal 18 i) ↔ ((r .count ≤ most) × StartsFit (take i (counted r)) × FirstOver SizeOver (counted r) i)) (λ r. buildOf r .verdict) (λ r. refusal 18 0)
-building-18-tells = (building-18, λ s. build-sound 18 0 (together (building-18 small 0) (s small 0) refl))
+building-18-tells : Tells (λ (build : Record → Verdict). (r : Record) (k : ℕ) → (build r ≡ refusal 18 k) ↔ ((r .count ≤ most) × OverIn SizeOver r k)) (λ r. buildOf r .verdict) (λ r. refusal 18 0)
+building-18-tells = (building-18, λ s. not-large (together (building-18 large 0) (s large 0) refl))
 
-building-19-tells : Tells (λ (build : Record → Verdict). (r : Record) (i : ℕ) → (build r ≡ refusal 19 i) ↔ ((r .count ≤ most) × StartsFit (take i (counted r)) × FirstOver SumOver (counted r) i)) (λ r. buildOf r .verdict) (λ r. refusal 19 0)
-building-19-tells = (building-19, λ s. build-sound 19 0 (together (building-19 small 0) (s small 0) refl))
+building-19-tells : Tells (λ (build : Record → Verdict). (r : Record) (k : ℕ) → (build r ≡ refusal 19 k) ↔ ((r .count ≤ most) × OverIn SumOver r k)) (λ r. buildOf r .verdict) (λ r. refusal 19 1)
+building-19-tells = (building-19, λ s. not-summed (together (building-19 summed 1) (s summed 1) refl))
 
-building-20-tells : Tells (λ (build : Record → Verdict). (r : Record) (i : ℕ) → (build r ≡ refusal 20 i) ↔ ((r .count ≤ most) × StartsFit (take i (counted r)) × FirstOver StartOver (counted r) i)) (λ r. buildOf r .verdict) (λ r. refusal 20 0)
-building-20-tells = (building-20, λ s. build-sound 20 0 (together (building-20 small 0) (s small 0) refl))
+building-20-tells : Tells (λ (build : Record → Verdict). (r : Record) (k : ℕ) → (build r ≡ refusal 20 k) ↔ ((r .count ≤ most) × OverIn StartOver r k)) (λ r. buildOf r .verdict) (λ r. refusal 20 0)
+building-20-tells = (building-20, λ s. not-far (together (building-20 far 0) (s far 0) refl))
 
 building-23-tells : Tells (λ (build : Record → Verdict). (r : Record) (k : ℕ) → (build r ≡ refusal 23 k) ↔ ((most < r .count) × (k ≡ 0))) (λ r. buildOf r .verdict) (λ r. refusal 23 0)
 building-23-tells = (building-23, λ s. build-sound 23 0 (together (building-23 small 0) (s small 0) refl))
 
-building-numbers-tells : Tells (λ (build : Record → Verdict). (r : Record) (n i : ℕ) → build r ≡ refusal n i → ((18 ≤ n) × (n ≤ 20)) ⊎ (n ≡ 23)) (λ r. buildOf r .verdict) (λ r. refusal 17 0)
+building-numbers-tells : Tells (λ (build : Record → Verdict). (r : Record) (n k : ℕ) → build r ≡ refusal n k → ((18 ≤ n) × (n ≤ 20)) ⊎ (n ≡ 23)) (λ r. buildOf r .verdict) (λ r. refusal 17 0)
 building-numbers-tells = (building-numbers, λ s. not-17 (s noRecord 17 0 refl))
 
 -- ---- places with names: the row of the next line, lines without a row, and the wrong file after a joint
@@ -165,6 +176,48 @@ row-from-line-tells =
 
 line-has-row-tells : Tells (λ (count : Table → ℕ). (d : List ℕ) (t : Table) → readOf d .verdict ≡ Sound → Builds (readOf d .descriptor) t → (before : List (List ℕ)) (l : List ℕ) (p k : ℕ) → LineAt d before l p k → (x : VmdkParsedExtent) → lineOf p l ≡ Extent x → length (extentsIn (sayings 0 before)) < count t) (λ t. t .count) (λ t. 0)
 line-has-row-tells = (line-has-row, λ s. not-few (s joined joined-table (joint-places .0) (joined-opens .1)))
+
+-- the line of a row: the line after its own, one too small, the extent's number, and the line of the extent before
+abbrev TellsLine : (Table → ℕ → ℕ) → Type 0
+TellsLine wrong =
+    Tells (λ (line : Table → ℕ → ℕ). (d : List ℕ) (t : Table) (a : readOf d .verdict ≡ Sound) (b : Builds (readOf d .descriptor) t) (i : ℕ) (h : i < t .count) → line t i ≡ row-from-line d t a b i h .number) (λ t i. rowAt t i .line) wrong
+
+row-line : (d : List ℕ) (t : Table) (a : readOf d .verdict ≡ Sound) (b : Builds (readOf d .descriptor) t) (i : ℕ) (h : i < t .count) → rowAt t i .line ≡ row-from-line d t a b i h .number
+row-line d t a b i h = row-from-line d t a b i h .lined
+
+-- the first rows of a disk, and the lines of the first two
+some-rows : (0 < joined-table .count) × (1 < joined-table .count)
+some-rows = (omega (arith, joined-holds .0), omega (arith, joined-holds .0))
+
+first-lines : (0 < rowAt joined-table 0 .line) × (rowAt joined-table 0 .line < rowAt joined-table 1 .line)
+first-lines =
+    let w = row-from-line joined joined-table (joint-places .0) (joined-opens .1) 0 (some-rows .0) in
+    (omega (arith, w .lined, w .there .number), lines-rise joined joined-table (joint-places .0) (joined-opens .1) 0 1 (omega arith) (some-rows .1))
+
+-- a wrong line, at row i of that disk
+wrong-line : (i n : ℕ) (h : i < joined-table .count) → n ≡ row-from-line joined joined-table (joint-places .0) (joined-opens .1) i h .number → n ≡ rowAt joined-table i .line
+wrong-line i n h e = e ∙ sym (row-line joined joined-table (joint-places .0) (joined-opens .1) i h)
+
+next-line-tells : TellsLine (λ t i. suc (rowAt t i .line))
+next-line-tells =
+    (row-line, λ s. absurd (omega (arith, wrong-line 0 _ (some-rows .0) (s joined joined-table (joint-places .0) (joined-opens .1) 0 (some-rows .0)))))
+
+too-small-tells : TellsLine (λ t i. rowAt t i .line - 1)
+too-small-tells =
+    (row-line, λ s. absurd (omega (arith, first-lines, wrong-line 0 _ (some-rows .0) (s joined joined-table (joint-places .0) (joined-opens .1) 0 (some-rows .0)))))
+
+extents-number-tells : TellsLine (λ t i. i)
+extents-number-tells =
+    (row-line, λ s. absurd (omega (arith, first-lines, wrong-line 0 _ (some-rows .0) (s joined joined-table (joint-places .0) (joined-opens .1) 0 (some-rows .0)))))
+
+extent-before-tells : TellsLine (λ t i. rowAt t (i - 1) .line)
+extent-before-tells =
+    (row-line, λ s. absurd (omega (arith, first-lines, wrong-line 1 _ (some-rows .1) (s joined joined-table (joint-places .0) (joined-opens .1) 1 (some-rows .1)))))
+
+-- each row with line 0
+lines-rise-tells : Tells (λ (line : Table → ℕ → ℕ). (d : List ℕ) (t : Table) → readOf d .verdict ≡ Sound → Builds (readOf d .descriptor) t → (i j : ℕ) → i < j → j < t .count → line t i < line t j) (λ t i. rowAt t i .line) (λ t i. 0)
+lines-rise-tells =
+    (lines-rise, λ s. absurd (omega (arith, s joined joined-table (joint-places .0) (joined-opens .1) 0 1 (omega arith) (omega (arith, joined-holds .0)))))
 
 mapping-names-tells : Tells (λ (map : Table → ℕ → ℕ → ShallowMapping). (d : List ℕ) (t : Table) → readOf d .verdict ≡ Sound → Builds (readOf d .descriptor) t → (o asked : ℕ) → seenBy d t (map t o asked) ≡ dueAt (placeIn d o)) (λ t o asked. mapOf t o asked .mapping) (λ t o asked. Raw 2 1024 true)
 mapping-names-tells =
@@ -214,9 +267,22 @@ walk-only-counted-tells : Tells (λ (left : Walk → List Piece → List Piece).
 walk-only-counted-tells =
     (λ t list pos long i none h. walk-only-counted t list pos long .kept-at i none h, λ s. let e : _≡_ {A = ℕ} 1 0 = ap (λ (p : Piece). p .start) (s noTable (noPiece ∷ []) 0 0 0 (rawPiece 1 1 1 1 true) no-steps) in absurd (omega (arith, e)))
 
+-- a build whose table is as large as its first extent's line says; a mapping and a walk that tell a row's line
+alike-builds-tells : Tells (λ (build : Record → Table). (r s : Record) → AlikeRecords r s → AlikeTables (build r) (build s)) (λ r. buildOf r .table) (λ r. tableOf [] (rowAt (buildOf r .table) 0 .line))
+alike-builds-tells =
+    (λ r s a. alike-builds r s a .table, λ w. let e : rowAt disk 0 .line ≡ rowAt moved-disk 0 .line = ap (λ (b : Bytes). b .0) (w small moved moved-alike .size) in absurd (omega (arith, e, moved-rows)))
+
+alike-maps-tells : Tells (λ (map : Table → ℕ → ℕ → Mapping). (s t : Table) → AlikeTables s t → (o asked : ℕ) → map s o asked ≡ map t o asked) mapOf (λ t o asked. ended (rowAt t 0 .line))
+alike-maps-tells =
+    (alike-maps, λ w. let e = ap (λ (m : Mapping). m .looked) (w disk moved-disk disks-alike 0 1) in absurd (omega (arith, e, moved-rows)))
+
+alike-walks-tells : Tells (λ (walk : Table → ℕ → ℕ → ℕ → Walk). (s t : Table) → AlikeTables s t → (places start long : ℕ) → walk s places start long ≡ walk t places start long) walkOf (λ t places start long. ends Done start (rowAt t 0 .line))
+alike-walks-tells =
+    (alike-walks, λ w. let e = ap (λ (z : Walk). z .looked) (w disk moved-disk disks-alike 1 0 1) in absurd (omega (arith, e, moved-rows)))
+
 -- ---- memory that is lent again: a record and a table left as they were, one emptied, nothing stored, the lines behind a refused one stored too, a refusal that leaves a count
-lent-record-tells : Tells (λ (into : List ℕ → Record → Record). (d : List ℕ) (r : Record) → counted (into d r) ≡ counted (readOf d .descriptor)) readInto (λ d r. r)
-unfolding readOf filled counted
+lent-record-tells : Tells (λ (into : List ℕ → Record → Record). (d : List ℕ) (r : Record) → readIn (into d r) ≡ readIn (readOf d .descriptor)) readInto (λ d r. r)
+unfolding readOf filled readIn
 lent-record-tells =
     (λ d r. lent-again d r noTable .extents, λ s. let e : _≡_ {A = ℕ} 1 0 = ap length (s [] small) in absurd (omega (arith, e)))
 
@@ -231,10 +297,10 @@ built-again-tells =
 reading-leaves-tells : Tells (λ (into : List ℕ → Record → Record). (d : List ℕ) (r : Record) → length (r .extents) ≡ most → Stored (r .extents) (storedOf d) (into d r .extents)) readInto (λ d r. noRecord)
 reading-leaves-tells = (λ d r. reading-leaves d r .places, λ s. not-emptied (s [] small small-long))
 
-reading-whole-tells : Tells (λ (stored : List ℕ → List VmdkParsedExtent). (d : List ℕ) → ByLine d → AllSound (sayingsOf d) → stored d ≡ extentsIn (sayingsOf d)) storedOf (λ d. [])
+reading-whole-tells : Tells (λ (stored : List ℕ → List ReadExtent). (d : List ℕ) → ByLine d → AllSound (sayingsOf d) → stored d ≡ readFrom 1 (sayingsOf d)) storedOf (λ d. [])
 reading-whole-tells = (λ d. reading-leaves d noRecord .whole, not-dropped)
 
-reading-before-tells : Tells (λ (stored : List ℕ → List VmdkParsedExtent). (d l : List ℕ) (n k : ℕ) → ByLine d → (f : FirstRefused d l n k) → stored d ≡ extentsIn (sayings 0 (f .before))) storedOf (λ d. extentsIn (sayingsOf d))
+reading-before-tells : Tells (λ (stored : List ℕ → List ReadExtent). (d l : List ℕ) (n k : ℕ) → ByLine d → (f : FirstRefused d l n k) → stored d ≡ readFrom 1 (sayings 0 (f .before))) storedOf (λ d. readFrom 1 (sayingsOf d))
 reading-before-tells = (λ d. reading-leaves d noRecord .before, not-behind)
 
 building-leaves-tells : Tells (λ (into : Record → Table → Table). (r : Record) (t : Table) (x : Refusal) → buildOf r .verdict ≡ Refused x → (into r t .count ≡ 0) × (into r t .size .0 ≡ 0)) buildInto (λ r t. t)

@@ -11,11 +11,11 @@ use Rattle.text.specs.Lines.{linesOf}
 use Rattle.text.specs.Ranges.{within}
 use Rattle.text.specs.Text.{textAt, sound, trimmed}
 use Rattle.text.specs.declared.sector.Sectors.{Sectors}
-use Rattle.lines.specs.Record.{most, noRecord, counted, refusal, mostBytes}
+use Rattle.lines.specs.Record.{most, noRecord, readIn, counted, refusal, mostBytes}
 use Rattle.lines.specs.Line.{lineOf}
 use Rattle.descriptor.specs.Read.{readOf, leastBytes, sparse}
 use Rattle.probing.specs.Probe.{probeOf}
-use Rattle.theorems.specs.Statements.{ByLine, sayingsOf, extentsIn, AllSound, firstVersion, lastVersion, LineAt, FirstRefused, Quotes, textIn, ExtentIn, sayings}
+use Rattle.theorems.specs.Statements.{ByLine, sayingsOf, extentsIn, readFrom, AllSound, firstVersion, lastVersion, LineAt, FirstRefused, Quotes, textIn, ExtentIn, sayings}
 use Rattle.lines.specs.declared.line.Said.the-variants.{Extent, Refused as Said·Refused}
 use Rattle.lines.specs.declared.record.Text.{Text}
 use Rattle.lines.specs.declared.record.Refusal.{Refusal}
@@ -24,7 +24,7 @@ use Rattle.lines.specs.declared.record.VmdkAccessType.{VmdkAccessType}
 use Rattle.lines.specs.declared.record.VmdkParsedStorage.the-variants.{Flat as Parsed·Flat}
 use Rattle.lines.specs.declared.record.VmdkParsedExtent.{VmdkParsedExtent}
 use Rattle.descriptor.proofs.Intos.{refused-none as read-none}
-use Rattle.theorems.proofs.Verdicts.{line-refused, line-no-text, accepted-lines, accepted-extents}
+use Rattle.theorems.proofs.Verdicts.{line-refused, line-no-text, accepted-lines, accepted-read, accepted-extents}
 use Rattle.theorems.proofs.Versions.{probe-accepted, last-accepted, probe-refused, last-refused}
 use Rattle.theorems.proofs.LinePlaces.{lies}
 use Rattle.theorems.proofs.ExtentLines.{file-named}
@@ -34,9 +34,9 @@ use Rattle.theorems.proofs.LastValues.{last-held}
 use Rattle.lines.specs.declared.record.Record.{Record}
 use Rattle.tables.specs.declared.table.Table.{Table}
 use Rattle.maps.specs.Place.{Reachable, sizeOf}
-use Rattle.maps.proofs.Alike.{disk-itself}
+use Rattle.maps.proofs.Alike.{alike-itself, map-alike, walk-alike}
 use Rattle.maps.specs.Walk.{walkOf}
-use Rattle.theorems.specs.Rows.{Builds, InRows}
+use Rattle.theorems.specs.Rows.{Builds, rowAt, InRows}
 use Rattle.theorems.specs.Looks.{Finds, FewLooks}
 use Rattle.theorems.specs.Maps.{MapsBy}
 use Rattle.theorems.specs.Tiling.{noAccessFrom, FirstNoAccess, metBy, Met, Tiles, Rise, rowsOf}
@@ -51,12 +51,14 @@ use Rattle.theorems.proofs.Shared.{met-is}
 use Rattle.theorems.proofs.Marked.{cases-due}
 use Rattle.theorems.proofs.Continuing.{continues, built-continues}
 use Rattle.tables.specs.declared.table.Piece.{Piece}
+use Rattle.lines.specs.Alike.{AlikeRecords}
+use Rattle.maps.specs.Alike.{AlikeTables}
 use Rattle.tables.specs.Build.{noTable, buildOf}
-use Rattle.theorems.specs.NamedPlaces.{inQuotes, FromLine, placeIn, MapsNamed, TilesNamed}
+use Rattle.theorems.specs.NamedPlaces.{inQuotes, ExtentFrom, FromLine, placeIn, MapsNamed, TilesNamed}
 use Rattle.theorems.specs.NamedCases.{joined, Joint, joints}
 use Rattle.theorems.specs.Counted.{OnlyCounted}
 use Rattle.theorems.specs.LentAgain.{BuiltAgain, fresh, LentAgain, ReadLeaves, BuildLeaves}
-use Rattle.theorems.proofs.LineRows.{quotes-in, from-line, row-below}
+use Rattle.theorems.proofs.LineRows.{quotes-in, extent-from, from-line, row-below, lines-rise as rows-rise}
 use Rattle.theorems.proofs.NamedPlaces.{maps-named, tiles-named}
 use Rattle.theorems.proofs.NamedCases.{joints-due}
 use Rattle.theorems.proofs.Counted.{only-counted}
@@ -90,12 +92,13 @@ use Rattle.maps.specs.Map.{mapOf}
 use Rattle.tables.specs.declared.table.ShallowMapping.the-variants.{Refused as Mapped·Refused}
 use Rattle.tables.specs.declared.table.Stop.the-variants.{Refused as Stopped}
 use Rattle.theorems.specs.GivenWhen.{Fault, faultNumber, When, FirstFault, OneMore}
-use Rattle.theorems.specs.Over.{SoundLines, SizeOver, SumOver, StartOver, FirstOver, StartsFit}
+use Rattle.theorems.specs.Over.{SoundLines, SizeOver, SumOver, StartOver, OverAt, overNth, StartsFit, OverIn, BuildAlike}
 use Rattle.theorems.specs.Probing.{FirstSays}
 use Rattle.theorems.specs.Refusing.{NoAccessAt, FileOverAt, StopsWhere}
+use Rattle.theorems.proofs.Alike.{records-alike}
 use Rattle.theorems.proofs.BeforeLines.{too-few, too-many, sparse-bytes}
 use Rattle.theorems.proofs.LineFaults.{line-given, extent-exactly, fault-first, extents-full}
-use Rattle.theorems.proofs.Over.{size-over, sum-over, start-over, read-over, read-few, read-sound, build-over, build-sound, build-few, build-counted}
+use Rattle.theorems.proofs.Over.{size-over, sum-over, start-over, read-over, text-start, read-few, read-sound, build-over, build-sound, build-few, build-counted}
 use Rattle.theorems.proofs.MapRefusals.{map-locked, map-over, map-counted, map-numbers, walk-met, walk-locked, walk-file-over, walk-counted, walk-numbers}
 
 -- ---- reading, and probing
@@ -103,9 +106,17 @@ use Rattle.theorems.proofs.MapRefusals.{map-locked, map-over, map-count
 pub probed-when : (d : List ℕ) → (probeOf d ≡ true) ↔ ((leastBytes ≤ length d) × (length d ≤ mostBytes) × ((begins d sparse ≡ true) ⊎ FirstSays (linesOf d)))
 probed-when = probe-yes
 
--- An accepted descriptor's extents are those that its lines say, in order, and at most as many as a record has room for.
+-- An accepted descriptor's extents are those that its lines say, in order, and at most as many as a record has room for ..
 pub extents-in-order : (t : List ℕ) → readOf t .verdict ≡ Sound → (counted (readOf t .descriptor) ≡ extentsIn (sayingsOf t)) × (length (extentsIn (sayingsOf t)) ≤ most)
 extents-in-order t e = (accepted-extents t e, accepted-lines t e .1 .1)
+
+-- .. each with the line that says it, counted from 1: extent i is said by the i-th line that says one, and has its number ..
+pub extent-from-line : (d : List ℕ) → readOf d .verdict ≡ Sound → (i : ℕ) → i < readOf d .descriptor .count → ExtentFrom d (readOf d .descriptor) i
+extent-from-line = extent-from
+
+-- .. so that all of them, with their lines, are those that the lines say from line 1 on.
+pub extents-with-lines : (t : List ℕ) → readOf t .verdict ≡ Sound → readIn (readOf t .descriptor) ≡ readFrom 1 (sayingsOf t)
+extents-with-lines = accepted-read
 
 -- A line says an extent exactly if its words have that extent's values and its file's name is kept where it lies between the quotes.
 pub extent-lines : (d : List ℕ) (before : List (List ℕ)) (l : List ℕ) (p k : ℕ) (x : VmdkParsedExtent) → LineAt d before l p k → (lineOf p l ≡ Extent x) ↔ (ExtentIn d (trimmed l) x × NameAt p l (x .storage))
@@ -158,13 +169,17 @@ pub sound-builds : (r : Record) → buildOf r .verdict ≡ Sound → Builds r (b
 sound-builds = sound-build
 
 -- ---- places with names: which line a row is, and the place that the descriptor's own lines give to each byte of the disk (`placeIn`)
--- For any descriptor that reads and whose record builds, row i is the i-th line that says an extent: its words are the extent's, its source is the row's, and where it is flat its name is the row's.
+-- For any descriptor that reads and whose record builds, row i is the i-th line that says an extent: the line's number is the row's line, its words are the extent's, its source is the row's, and where it is flat its name is the row's.
 pub row-from-line : (d : List ℕ) (t : Table) → readOf d .verdict ≡ Sound → Builds (readOf d .descriptor) t → (i : ℕ) → i < t .count → FromLine d t i
 row-from-line = from-line
 
 -- Each line that says an extent has its row.
 pub line-has-row : (d : List ℕ) (t : Table) → readOf d .verdict ≡ Sound → Builds (readOf d .descriptor) t → (before : List (List ℕ)) (l : List ℕ) (p k : ℕ) → LineAt d before l p k → (x : VmdkParsedExtent) → lineOf p l ≡ Extent x → length (extentsIn (sayings 0 before)) < t .count
 line-has-row = row-below
+
+-- Lines rise strictly over the rows of a table read from text.
+pub lines-rise : (d : List ℕ) (t : Table) → readOf d .verdict ≡ Sound → Builds (readOf d .descriptor) t → (i j : ℕ) → i < j → j < t .count → rowAt t i .line < rowAt t j .line
+lines-rise = rows-rise
 
 -- Where a line is cut at its first two quotes, the text between them is the middle.
 pub between-quotes : (l front middle back : List ℕ) → Quotes l front middle back → inQuotes l ≡ middle
@@ -194,7 +209,7 @@ mapping-places-bytes d t a b o asked =
 
 -- For any descriptor that reads and whose record builds, mapping gives each offset the place that the descriptor's own lines give it: kind, name, file offset and writable, with 21 and 22 exactly where they are due.
 pub mapping-names : (d : List ℕ) (t : Table) → readOf d .verdict ≡ Sound → Builds (readOf d .descriptor) t → (o asked : ℕ) → MapsNamed d t o asked
-mapping-names d t a b o asked = maps-named d t t (disk-itself t) a b o asked (mapping-places-bytes d t a b o asked)
+mapping-names d t a b o asked = maps-named d t t (alike-itself t) a b o asked (mapping-places-bytes d t a b o asked)
 
 -- ---- demand 3, and the walk
 -- Demand 3. Take any built table in which each flat extent's file start plus its length is at most 2^64. A walk over any range, given as many list places as a table has room for rows, writes pieces that tile the range up to the first of its end, the disk's end and a no-access byte, each byte at the place that the extents give it, with one piece for each non-empty readable extent met and no shorter tiling by single-extent pieces. It stops with refusal 21 exactly if a no-access byte lies in the range, and otherwise with Done. The walk looks at no more than 11 rows a piece and 11 besides.
@@ -211,7 +226,7 @@ demand-3-bytes d t a b h places start long m =
 -- Demand 3 with names: for any descriptor that reads and builds, and in which each flat extent's file start plus its length is at most 2^64, a walk over any range, given as many list places as a table has room for rows, writes pieces that tile it up to the first of its end, the disk's end and a no-access byte, and for every byte of every piece, kind, name, file offset and writable are those that the descriptor's own lines give to that byte of the disk.
 pub demand-3-names : (d : List ℕ) (t : Table) → readOf d .verdict ≡ Sound → Builds (readOf d .descriptor) t → Reachable (extentsIn (sayingsOf d)) → (places start long : ℕ) → most ≤ places → TilesNamed d t start long (walkOf t places start long)
 demand-3-names d t a b h places start long m =
-    tiles-named d t t (disk-itself t) a b start long (walkOf t places start long) (demand-3-bytes d t a b h places start long m)
+    tiles-named d t t (alike-itself t) a b start long (walkOf t places start long) (demand-3-bytes d t a b h places start long m)
 
 -- Two words of demand 3, told by the bytes' places alone: the first no-access byte at or after a place, ..
 pub first-no-access : (xs : List VmdkParsedExtent) (start : ℕ) → FirstNoAccess xs start (noAccessFrom xs start)
@@ -240,6 +255,18 @@ lent-again d r t = lent-alike d r t (mapping-places-bytes d (fresh d)) (demand-3
 -- The same of a record made by hand: built into any table, in whatever state that was, it gives the mappings and walks of the table that the record alone builds, of which `mapping-places` and `demand-3` speak.
 pub built-again : (r : Record) (t : Table) → BuiltAgain r t
 built-again = built-alike
+
+-- Lines aside, what is built depends on no line: of records that agree in all but the lines the one builds exactly if the other does, refusals have the same number, and their tables agree in all but the lines.
+pub alike-builds : (r s : Record) → AlikeRecords r s → BuildAlike r s
+alike-builds = records-alike
+
+-- Neither do mapping and the walk: tables that agree in all but the lines map alike ..
+pub alike-maps : (s t : Table) → AlikeTables s t → (o asked : ℕ) → mapOf s o asked ≡ mapOf t o asked
+alike-maps = map-alike
+
+-- .. and walk alike.
+pub alike-walks : (s t : Table) → AlikeTables s t → (places start long : ℕ) → walkOf s places start long ≡ walkOf t places start long
+alike-walks = walk-alike
 
 -- What reading leaves in a record that is lent: count 0 and start values if it is refused, in the first places the extents of the lines before the refused one, or of all lines, and every other place as it was.
 pub reading-leaves : (d : List ℕ) (r : Record) → ReadLeaves d r
@@ -360,25 +387,29 @@ given-16 = extents-full
 pub given-17 : (d : List ℕ) (k : ℕ) → (readOf d .verdict ≡ refusal 17 k) ↔ (ByLine d × AllSound (sayingsOf d) × (within 1 3 (lastVersion (sayingsOf d)) ≡ false) × (k ≡ 0))
 given-17 = last-refused
 
--- 18, of reading: the lines and the version are sound, and extent i is the first that is over, by its size.
-pub given-18 : (d : List ℕ) (i : ℕ) → (readOf d .verdict ≡ refusal 18 i) ↔ (SoundLines d × FirstOver SizeOver (extentsIn (sayingsOf d)) i)
-given-18 d i = read-over d size-over i
+-- 18, of reading: the lines and the version are sound, and line k says the first extent that is over, by its size.
+pub given-18 : (d : List ℕ) (k : ℕ) → (readOf d .verdict ≡ refusal 18 k) ↔ (SoundLines d × OverAt SizeOver d k)
+given-18 d k = read-over d size-over k
 
 -- 19, of reading: the same, by the sum.
-pub given-19 : (d : List ℕ) (i : ℕ) → (readOf d .verdict ≡ refusal 19 i) ↔ (SoundLines d × FirstOver SumOver (extentsIn (sayingsOf d)) i)
-given-19 d i = read-over d sum-over i
+pub given-19 : (d : List ℕ) (k : ℕ) → (readOf d .verdict ≡ refusal 19 k) ↔ (SoundLines d × OverAt SumOver d k)
+given-19 d k = read-over d sum-over k
 
--- 18: no file start before extent i is over, and extent i is the first that is over, by its size.
-pub building-18 : (r : Record) (i : ℕ) → (buildOf r .verdict ≡ refusal 18 i) ↔ ((r .count ≤ most) × StartsFit (take i (counted r)) × FirstOver SizeOver (counted r) i)
-building-18 r i = build-over r size-over i
+-- 20, of a descriptor that reads: line k says the first extent that is over, by its file start in bytes, and no file start before it is over.
+pub given-20 : (d : List ℕ) (k : ℕ) → readOf d .verdict ≡ Sound → (buildOf (readOf d .descriptor) .verdict ≡ refusal 20 k) ↔ ((o : OverAt StartOver d k) × StartsFit (take (overNth d o) (extentsIn (sayingsOf d))))
+given-20 = text-start
+
+-- 18, of building: an extent with the line k is the first that is over, by its size, and no file start before it is over.
+pub building-18 : (r : Record) (k : ℕ) → (buildOf r .verdict ≡ refusal 18 k) ↔ ((r .count ≤ most) × OverIn SizeOver r k)
+building-18 r k = build-over r size-over k
 
 -- 19: the same, by the sum.
-pub building-19 : (r : Record) (i : ℕ) → (buildOf r .verdict ≡ refusal 19 i) ↔ ((r .count ≤ most) × StartsFit (take i (counted r)) × FirstOver SumOver (counted r) i)
-building-19 r i = build-over r sum-over i
+pub building-19 : (r : Record) (k : ℕ) → (buildOf r .verdict ≡ refusal 19 k) ↔ ((r .count ≤ most) × OverIn SumOver r k)
+building-19 r k = build-over r sum-over k
 
 -- 20: the same, by the file start in bytes.
-pub building-20 : (r : Record) (i : ℕ) → (buildOf r .verdict ≡ refusal 20 i) ↔ ((r .count ≤ most) × StartsFit (take i (counted r)) × FirstOver StartOver (counted r) i)
-building-20 r i = build-over r start-over i
+pub building-20 : (r : Record) (k : ℕ) → (buildOf r .verdict ≡ refusal 20 k) ↔ ((r .count ≤ most) × OverIn StartOver r k)
+building-20 r k = build-over r start-over k
 
 -- 23: a count above the record's room, whatever the extents are.
 pub building-23 : (r : Record) (k : ℕ) → (buildOf r .verdict ≡ refusal 23 k) ↔ ((most < r .count) × (k ≡ 0))
@@ -421,7 +452,7 @@ pub reading-numbers : (d : List ℕ) (n k : ℕ) → readOf d .verdict ≡ refus
 reading-numbers = read-few
 
 -- .. building 18 to 20 and 23, ..
-pub building-numbers : (r : Record) (n i : ℕ) → buildOf r .verdict ≡ refusal n i → ((18 ≤ n) × (n ≤ 20)) ⊎ (n ≡ 23)
+pub building-numbers : (r : Record) (n k : ℕ) → buildOf r .verdict ≡ refusal n k → ((18 ≤ n) × (n ≤ 20)) ⊎ (n ≡ 23)
 building-numbers = build-few
 
 -- .. mapping 21 to 23, on any table, ..

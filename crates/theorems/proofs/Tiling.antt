@@ -14,7 +14,7 @@ use Rattle.tables.specs.declared.table.Table.{Table}
 use Rattle.tables.specs.declared.table.Piece.{Piece}
 use Rattle.maps.specs.Place.{placeOf, Reachable}
 use Rattle.maps.specs.Walk.{Walk, walkFrom, walkOf}
-use Rattle.theorems.specs.Rows.{Builds}
+use Rattle.theorems.specs.Rows.{Builds, lineAt}
 use Rattle.theorems.specs.Tiling.{Placed, Rise, metBy, Tiles}
 use Rattle.theorems.proofs.Built.{tableIn, table-laid, length-laid}
 use Rattle.theorems.proofs.Maps.{maps-in}
@@ -47,17 +47,17 @@ tiles xs start long w r few =
       few = few;
     }
 
-tiles-in : (xs : List VmdkParsedExtent) → length xs ≤ most → Reachable xs → (places start long : ℕ) → most ≤ places → Tiles xs start long (walkOf (tableIn xs) places start long)
+tiles-in : (ln : ℕ → ℕ) (xs : List VmdkParsedExtent) → length xs ≤ most → Reachable xs → (places start long : ℕ) → most ≤ places → Tiles xs start long (walkOf (tableIn ln xs) places start long)
 unfolding walkOf
-tiles-in xs short reach places start long h =
-    let t = tableIn xs in
-    let c : t .count ≤ most = omega (arith, length-laid 0 xs) in
+tiles-in ln xs short reach places start long h =
+    let t = tableIn ln xs in
+    let c : t .count ≤ most = omega (arith, length-laid ln 0 xs) in
     let e : min places most ≡ most = omega arith in
     rw (le-leb (t .count) most c, e)
-    (tiles xs start long (walkFrom most t start long) (walk-takes xs t (λ o asked. maps-in xs o asked short) refl most start long reach short) (walk-few most t start long))
+    (tiles xs start long (walkFrom most t start long) (walk-takes xs t (λ o asked. maps-in ln xs o asked short) refl most start long reach short) (walk-few most t start long))
 
 -- a walk over a built table, given `most` list places
 pub built-tiles : (r : Record) (t : Table) → Builds r t → Reachable (counted r) → (places start long : ℕ) → most ≤ places → Tiles (counted r) start long (walkOf t places start long)
 built-tiles r t b reach places start long h =
     let g = table-laid r t b in
-    subst (λ (t : Table). Tiles (counted r) start long (walkOf t places start long)) (sym (g .0)) (tiles-in (counted r) (g .1) reach places start long h)
+    subst (λ (t : Table). Tiles (counted r) start long (walkOf t places start long)) (sym (g .0)) (tiles-in (lineAt r) (counted r) (g .1) reach places start long h)

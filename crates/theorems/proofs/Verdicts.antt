@@ -15,19 +15,19 @@ use Rattle.text.specs.Find.{begins}
 use Rattle.text.specs.Lines.{linesOf}
 use Rattle.text.specs.Text.{textAt, sound}
 use Rattle.text.proofs.Flat.{by-test}
-use Rattle.lines.specs.Record.{most, mostBytes, noExtent, noDesc, filled, recordOf, counted, refusal}
+use Rattle.lines.specs.Record.{most, mostBytes, noRead, noDesc, filled, recordOf, readIn, bare, counted, refusal}
 use Rattle.lines.specs.Line.{lineOf}
 use Rattle.descriptor.specs.Read.{leastBytes, sparse, answer, sizesFrom, checked, readLines, readOf}
-use Rattle.theorems.specs.Statements.{ByLine, placeAfter, sayings, sayingsOf, extentsIn, AllSound, RefusedWith, FirstRefused}
+use Rattle.theorems.specs.Statements.{ByLine, placeAfter, sayings, sayingsOf, extentsIn, readFrom, AllSound, RefusedWith, FirstRefused}
 use Rattle.lines.specs.declared.line.Said.{Said}
 use Rattle.lines.specs.declared.line.Said.the-variants.{Nothing, Extent, Set, Refused}
 use Rattle.lines.specs.declared.record.Verdict.{Verdict}
 use Rattle.lines.specs.declared.record.Verdict.the-variants.{Sound, Refused as Stopped}
 use Rattle.lines.specs.declared.record.VmdkDesc.{VmdkDesc}
-use Rattle.lines.specs.declared.record.VmdkParsedExtent.{VmdkParsedExtent}
+use Rattle.lines.specs.declared.record.ReadExtent.{ReadExtent}
 use Rattle.descriptor.specs.declared.read.Read.{Read}
 use Rattle.theorems.proofs.RefusalNumbers.{four}
-use Rattle.theorems.proofs.Sayings.{From, setAll, Stops, never, stopped, stops, all-sound, after-all}
+use Rattle.theorems.proofs.Sayings.{From, setAll, read-bare, Stops, never, stopped, stops, all-sound, after-all}
 
 -- a descriptor in range that is no sparse file is read by its lines
 pub by-line : (t : List ℕ) → ByLine t → readOf t ≡ readLines 1 0 noDesc [] (linesOf t)
@@ -107,7 +107,7 @@ module _ (t : List ℕ) where
   lines-sound b f = let r = all-sound 1 0 noDesc [] (linesOf t) (omega arith) (rw (by-line t b) at f) in (r .0, omega (arith, r .1))
 
   -- and its values and extents are checked
-  pub lines-checked : ByLine t → AllSound (sayingsOf t) → readOf t ≡ checked (setAll noDesc (sayingsOf t)) (extentsIn (sayingsOf t))
+  pub lines-checked : ByLine t → AllSound (sayingsOf t) → readOf t ≡ checked (setAll noDesc (sayingsOf t)) (readFrom 1 (sayingsOf t))
   lines-checked b a = by-line t b ∙ after-all 1 0 noDesc [] (linesOf t) (a .0) (let f = a .1 in omega arith)
 
   pub accepted-lines : readOf t .verdict ≡ Sound → ByLine t × AllSound (sayingsOf t)
@@ -116,29 +116,33 @@ module _ (t : List ℕ) where
       (b, lines-sound b (rw e tt))
 
 -- what is accepted after the lines
-answered : (v : Verdict) (d : VmdkDesc) (xs : List VmdkParsedExtent) → answer v d xs .verdict ≡ Sound → answer v d xs .descriptor ≡ recordOf d xs
+answered : (v : Verdict) (d : VmdkDesc) (xs : List ReadExtent) → answer v d xs .verdict ≡ Sound → answer v d xs .descriptor ≡ recordOf d xs
 answered Sound d xs e = refl
 answered (Stopped r) d xs e = let z : _≡_ {A = ℕ} 0 1 = cc in absurd (omega arith)
 
-checked-sound : (d : VmdkDesc) (xs : List VmdkParsedExtent) → checked d xs .verdict ≡ Sound → (within 1 3 (d .version) ≡ true) × (checked d xs .descriptor ≡ recordOf d xs)
+checked-sound : (d : VmdkDesc) (xs : List ReadExtent) → checked d xs .verdict ≡ Sound → (within 1 3 (d .version) ≡ true) × (checked d xs .descriptor ≡ recordOf d xs)
 unfolding checked
 checked-sound d xs e =
     by-test (within 1 3 (d .version))
-    (λ q. rw q (refl, answered (sizesFrom 0 0 xs) d xs (rw q at e)))
+    (λ q. rw q (refl, answered (sizesFrom 0 xs) d xs (rw q at e)))
     (λ q. let g : refusal 17 0 ≡ Sound = rw q at e in let z : _≡_ {A = ℕ} 0 1 = cc in absurd (omega arith))
 
 -- the values and extents of all lines are those of the record, and the version is 1 to 3
-pub accepted-checked : (t : List ℕ) → readOf t .verdict ≡ Sound → (within 1 3 (setAll noDesc (sayingsOf t) .version) ≡ true) × (readOf t .descriptor ≡ recordOf (setAll noDesc (sayingsOf t)) (extentsIn (sayingsOf t)))
+pub accepted-checked : (t : List ℕ) → readOf t .verdict ≡ Sound → (within 1 3 (setAll noDesc (sayingsOf t) .version) ≡ true) × (readOf t .descriptor ≡ recordOf (setAll noDesc (sayingsOf t)) (readFrom 1 (sayingsOf t)))
 accepted-checked t e =
     let a = accepted-lines t e in
     let q = lines-checked t (a .0) (a .1) in
-    let r = checked-sound (setAll noDesc (sayingsOf t)) (extentsIn (sayingsOf t)) (ap (λ (x : Read). x .verdict) (sym q) ∙ e) in
+    let r = checked-sound (setAll noDesc (sayingsOf t)) (readFrom 1 (sayingsOf t)) (ap (λ (x : Read). x .verdict) (sym q) ∙ e) in
     (r .0, ap (λ (x : Read). x .descriptor) q ∙ r .1)
 
-counted-all : (d : VmdkDesc) (xs : List VmdkParsedExtent) → counted (recordOf d xs) ≡ xs
-unfolding counted filled
-counted-all d xs = take-append-seam xs (replicate (most - length xs) noExtent)
+pub read-all : (d : VmdkDesc) (xs : List ReadExtent) → readIn (recordOf d xs) ≡ xs
+unfolding readIn filled
+read-all d xs = take-append-seam xs (replicate (most - length xs) noRead)
 
--- its extents are those that its lines say
+-- its extents are those that its lines say, each with its line ..
+pub accepted-read : (t : List ℕ) → readOf t .verdict ≡ Sound → readIn (readOf t .descriptor) ≡ readFrom 1 (sayingsOf t)
+accepted-read t e = ap readIn (accepted-checked t e .1) ∙ read-all (setAll noDesc (sayingsOf t)) (readFrom 1 (sayingsOf t))
+
+-- .. and without
 pub accepted-extents : (t : List ℕ) → readOf t .verdict ≡ Sound → counted (readOf t .descriptor) ≡ extentsIn (sayingsOf t)
-accepted-extents t e = ap counted (accepted-checked t e .1) ∙ counted-all (setAll noDesc (sayingsOf t)) (extentsIn (sayingsOf t))
+accepted-extents t e = ap bare (accepted-read t e) ∙ read-bare 1 (sayingsOf t)

@@ -31,7 +31,7 @@ use Rattle.lines.specs.Extent.{part, noAccessLine, extentLine}
 use Rattle.lines.specs.Line.{versionLimit, versionBy, versionOf, geometryOf, geometryBy, geometryLine, valueOf, keyLine, accessWord, accessLine, firstBlank, skipped, textLine, lineOf}
 use Rattle.descriptor.specs.Read.{leastBytes, setOf, sizesFrom, checked, readOf}
 use Rattle.probing.specs.Probe.{verdictOf, probeKey, probeLine, firstAnswer, probeLines, probeOf}
-use Rattle.theorems.specs.Statements.{ByLine, sayings, sayingsOf, extentsIn, refuses, AllSound, firstVersion, versionAfter, lastVersion}
+use Rattle.theorems.specs.Statements.{ByLine, sayings, sayingsOf, refuses, AllSound, firstVersion, versionAfter, lastVersion, readFrom}
 use Rattle.keys.specs.declared.key.Key.{Key}
 use Rattle.keys.specs.declared.key.Key.the-variants.{Version, Cid, ParentCid, CreateType, ParentFileNameHint, Geometry as Geometry·Key, Ddb, Unknown}
 use Rattle.keys.specs.declared.key.Geometry.{Geometry}
@@ -46,7 +46,7 @@ use Rattle.probing.specs.declared.probe.Probed.{Probed}
 use Rattle.probing.specs.declared.probe.Probed.the-variants.{Pass, Answer}
 use Rattle.lines.specs.declared.record.Verdict.the-variants.{Sound}
 use Rattle.lines.specs.declared.record.VmdkDesc.{VmdkDesc}
-use Rattle.lines.specs.declared.record.VmdkParsedExtent.{VmdkParsedExtent}
+use Rattle.lines.specs.declared.record.ReadExtent.{ReadExtent}
 use Rattle.descriptor.specs.declared.read.Read.{Read}
 use Rattle.theorems.proofs.RefusalNumbers.{OfExtent, extent-locked-line, extent-line}
 use Rattle.theorems.proofs.Trimming.{Trimming, trim-front, trim-back, first-byte, encode-append, encode-cut, scalars-split, cut-at, blanks-free, count-append, find-none, find-behind}
@@ -365,12 +365,12 @@ version-set d (Extent x ∷ ss) = version-set d ss
 version-set d (Refused n ∷ ss) = version-set d ss
 
 -- after the lines 17 is answered, with 0, exactly if the version is not 1 to 3
-version-checked : (d : VmdkDesc) (xs : List VmdkParsedExtent) (k : ℕ) → (checked d xs .verdict ≡ refusal 17 k) ↔ ((within 1 3 (d .version) ≡ false) × (k ≡ 0))
+version-checked : (d : VmdkDesc) (xs : List ReadExtent) (k : ℕ) → (checked d xs .verdict ≡ refusal 17 k) ↔ ((within 1 3 (d .version) ≡ false) × (k ≡ 0))
 unfolding checked
 version-checked d xs k = (
   λ h. by-test (within 1 3 (d .version))
-      (λ e. let g : sizesFrom 0 0 xs ≡ refusal 17 k = sym (from-answer (sizesFrom 0 0 xs) d xs) ∙ (rw e at h) in
-      let f : 18 ≤ 17 = subst (From 18) g (from-sizes 0 0 xs) in
+      (λ e. let g : sizesFrom 0 xs ≡ refusal 17 k = sym (from-answer (sizesFrom 0 xs) d xs) ∙ (rw e at h) in
+      let f : 18 ≤ 17 = subst (From 18) g (from-sizes 0 xs) in
       absurd (omega arith))
       (λ e. (e, sym (never 17 k 17 0 (rw e at h) .1))),
   λ w. rw (w .0, w .1),
@@ -392,10 +392,10 @@ module _ (t : List ℕ) where
         let f : 17 ≤ 17 = omega arith in
         let a = lines-sound t b (subst (From 17) (sym h) f) in
         let q = ap (λ (x : Read). x .verdict) (sym (lines-checked t b a)) ∙ h in
-        let v = version-checked (setAll noDesc (sayingsOf t)) (extentsIn (sayingsOf t)) k .0 q in
+        let v = version-checked (setAll noDesc (sayingsOf t)) (readFrom 1 (sayingsOf t)) k .0 q in
         (b, a, rw (version-set noDesc (sayingsOf t)) at (v .0), v .1),
     λ w. rw (lines-checked t (w .0) (w .1))
-        (version-checked (setAll noDesc (sayingsOf t)) (extentsIn (sayingsOf t)) k .1 (rw (version-set noDesc (sayingsOf t)) (w .2), w .3)),
+        (version-checked (setAll noDesc (sayingsOf t)) (readFrom 1 (sayingsOf t)) k .1 (rw (version-set noDesc (sayingsOf t)) (w .2), w .3)),
   )
 
   -- 17, where probing says yes

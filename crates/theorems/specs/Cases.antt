@@ -6,11 +6,12 @@ use mathlib.Core.Bool.{Bool, true, false}
 use Rattle.text.specs.Ascii.{ascii}
 use Rattle.probing.specs.Probe.{probeOf}
 use Rattle.descriptor.specs.Read.{readOf}
-use Rattle.lines.specs.Record.{most, noText, noExtent, noDesc, descOf, filled, recordOf, refusal}
+use Rattle.lines.specs.Record.{atLine, noRead, most, noText, noDesc, descOf, filled, recordOf, refusal}
 use Rattle.lines.specs.declared.record.Record.{Record}
 use Rattle.lines.specs.declared.record.Verdict.{Verdict}
 use Rattle.lines.specs.declared.record.Verdict.the-variants.{Sound}
 use Rattle.lines.specs.declared.record.VmdkAccessType.the-variants.{RW, RdOnly}
+use Rattle.lines.specs.declared.record.ReadExtent.{ReadExtent}
 use Rattle.lines.specs.declared.record.VmdkParsedExtent.{VmdkParsedExtent}
 use Rattle.lines.specs.declared.record.VmdkParsedStorage.{VmdkParsedStorage}
 use Rattle.lines.specs.declared.record.VmdkParsedStorage.the-variants.{NoAccess, Zero, Flat}
@@ -71,12 +72,18 @@ buildsFrom ls due = is (building (buildOf (recordIn ls) .verdict)) (building due
 abbrev tableIn : List String → Table
 tableIn ls = buildOf (recordIn ls) .table
 
+-- extents on one line after the other, from line k on
+unfoldable pub onLines : ℕ → List VmdkParsedExtent → List ReadExtent
+onLines k [] = []
+onLines k (x ∷ xs) = atLine k x ∷ onLines (suc k) xs
+
 -- the table of some extents
 abbrev tableBy : List VmdkParsedExtent → Table
-tableBy xs = buildOf (recordOf noDesc xs) .table
+tableBy xs = buildOf (recordOf noDesc (onLines 1 xs)) .table
 
-abbrev builds : List VmdkParsedExtent → Verdict → Case
-builds xs due = is (building (buildOf (recordOf noDesc xs) .verdict)) (building due)
+-- a hand-made record, whose lines are whatever its maker wrote
+abbrev builds : ℕ → List VmdkParsedExtent → Verdict → Case
+builds k xs due = is (building (buildOf (recordOf noDesc (onLines k xs)) .verdict)) (building due)
 
 abbrev maps : Table → ℕ → ℕ → ShallowMapping → ℕ → ℕ → Case
 maps t o asked m run looked = is (mapping (mapOf t o asked)) (mapping (record { mapping = m; run = run; looked = looked }))
@@ -113,7 +120,7 @@ far n = extent n (Flat RW noText (record { 0 = 36028797018963967 })) ∷ []
 
 -- a record, and a table, with a count above `most`
 abbrev full : Record
-full = record { desc = noDesc; count = suc most; extents = filled noExtent [] }
+full = record { desc = noDesc; count = suc most; extents = filled noRead [] }
 
 abbrev fullTable : Table
 fullTable = record { size = record { 0 = 4096 }; count = suc most; rows = filled noRow [] }
@@ -123,7 +130,7 @@ cases =
     -- the report: what reading its descriptor gives
     probes report true
     ∷ reads report Sound
-    ∷ is (holding (recordIn report)) (holding (recordOf (descOf 1 (record { place = 36; length = 8 }) noText noText 0 0 0) reel))
+    ∷ is (holding (recordIn report)) (holding (recordOf (descOf 1 (record { place = 36; length = 8 }) noText noText 0 0 0) (onLines 4 reel)))
     -- K1 to K6, on its table
     ∷ maps (tableIn report) 0 100 (Raw 0 1024 true) 100 3
     ∷ maps (tableIn report) 2047 100 (Raw 0 3071 true) 1 3
@@ -137,14 +144,17 @@ cases =
     -- K8: probe yes, 17
     ∷ probes ("version=1" ∷ "version=9" ∷ []) true
     ∷ reads ("version=1" ∷ "version=9" ∷ []) (refusal 17 0)
-    -- K9: 18; one less builds
-    ∷ reads ("version=1" ∷ "RW 36028797018963968 ZERO" ∷ []) (refusal 18 0)
-    ∷ builds (extent 36028797018963968 (Zero RW) ∷ []) (refusal 18 0)
+    -- K9: 18, in line 2; one less builds
+    ∷ reads ("version=1" ∷ "RW 36028797018963968 ZERO" ∷ []) (refusal 18 2)
+    ∷ builds 7 (extent 36028797018963968 (Zero RW) ∷ []) (refusal 18 7)
     ∷ reads ("version=1" ∷ "RW 36028797018963967 ZERO" ∷ []) Sound
     ∷ buildsFrom ("version=1" ∷ "RW 36028797018963967 ZERO" ∷ []) Sound
-    -- K10: 19, extent 1
-    ∷ reads ("version=1" ∷ "RW 36028797018963967 ZERO" ∷ "RW 1 ZERO" ∷ []) (refusal 19 1)
-    ∷ builds (extent 36028797018963967 (Zero RW) ∷ extent 1 (Zero RW) ∷ []) (refusal 19 1)
+    -- K10: 19, in line 3
+    ∷ reads ("version=1" ∷ "RW 36028797018963967 ZERO" ∷ "RW 1 ZERO" ∷ []) (refusal 19 3)
+    ∷ builds 7 (extent 36028797018963967 (Zero RW) ∷ extent 1 (Zero RW) ∷ []) (refusal 19 8)
+    -- lines that say no extent are counted too
+    ∷ reads ("# reels" ∷ "version=1" ∷ "" ∷ "RW 36028797018963967 ZERO" ∷ "x" ∷ "RW 1 ZERO" ∷ "" ∷ []) (refusal 19 6)
+    ∷ buildsFrom ("version=1" ∷ "RW 1 ZERO" ∷ "# b" ∷ "RW 1 FLAT \"x\" 36028797018963968" ∷ []) (refusal 20 4)
     -- K11: the last sector of a file, and one past it
     ∷ maps (tableIn ("version=1" ∷ "RW 2 FLAT \"x\" 36028797018963967" ∷ [])) 0 1024 (Raw 0 18446744073709551104 true) 1024 1
     ∷ maps (tableIn ("version=1" ∷ "RW 2 FLAT \"x\" 36028797018963967" ∷ [])) 512 1 (Refused 22) 0 1
@@ -167,7 +177,7 @@ cases =
     ∷ maps (tableBy []) 0 1 Eof 0 0
     ∷ walks (tableBy []) 0 10 [] Done 0 0
     -- 20, and 23 from a hand-made record and table
-    ∷ builds (extent 1 (Flat RW noText (record { 0 = 36028797018963968 })) ∷ []) (refusal 20 0)
+    ∷ builds 9 (extent 1 (Flat RW noText (record { 0 = 36028797018963968 })) ∷ []) (refusal 20 9)
     ∷ is (building (buildOf full .verdict)) (building (refusal 23 0))
     ∷ maps fullTable 0 1 (Refused 23) 0 0
     ∷ walks fullTable 7 0 [] (Stopped 23) 7 0

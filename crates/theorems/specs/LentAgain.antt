@@ -1,10 +1,10 @@
 -- Memory that is lent again: a descriptor read into a record, and built from it into a table, in whatever state the two were; and what is left there.
-use Prim.Native.Nat.{ℕ, _≤_}
+use Prim.Native.Nat.{ℕ, _<_, _≤_}
 use mathlib.Core.List.{List, []}
 use mathlib.Core.Logic.{_⊎_}
 use mathlib.Core.Path.{_≡_}
 use lib.ListN.{length, take, getD}
-use Rattle.lines.specs.Record.{most, noDesc, counted}
+use Rattle.lines.specs.Record.{most, noDesc, readIn}
 use Rattle.lines.specs.declared.record.Record.{Record}
 use Rattle.lines.specs.declared.record.Refusal.{Refusal}
 use Rattle.lines.specs.declared.record.Verdict.the-variants.{Sound, Refused}
@@ -12,14 +12,14 @@ use Rattle.descriptor.specs.Read.{readOf}
 use Rattle.descriptor.specs.Into.{storedOf, readInto}
 use Rattle.tables.specs.declared.table.Stop.the-variants.{Done}
 use Rattle.tables.specs.declared.table.Table.{Table}
+use Rattle.maps.specs.Alike.{SameTable}
 use Rattle.tables.specs.Build.{buildOf}
 use Rattle.tables.specs.Into.{storedRows, buildInto}
-use Rattle.maps.specs.Alike.{SameDisk}
 use Rattle.maps.specs.Map.{ended, mapOf}
 use Rattle.maps.specs.Place.{Reachable}
 use Rattle.maps.specs.Walk.{ends, walkOf}
-use Rattle.theorems.specs.Statements.{ByLine, sayings, sayingsOf, extentsIn, AllSound, FirstRefused}
-use Rattle.theorems.specs.NamedPlaces.{MapsNamed, TilesNamed}
+use Rattle.theorems.specs.Statements.{ByLine, sayings, sayingsOf, extentsIn, readFrom, AllSound, FirstRefused}
+use Rattle.theorems.specs.NamedPlaces.{FromLine, MapsNamed, TilesNamed}
 
 -- the table that a caller has in hand: what building leaves in a lent table, from what reading a descriptor leaves in a lent record
 abbrev pub inHand : List ℕ → Record → Table → Table
@@ -39,13 +39,15 @@ pub record NoDisk (t : Table) : Type 0 where
 -- What a caller has in hand depends on the descriptor alone: nothing of an earlier reel can shine through. Nothing is asked of the record and the table
 -- that are lent, not even that they have `most` places, as every value of these types has.
 pub record LentAgain (d : List ℕ) (r : Record) (t : Table) : Type 0 where
-  -- the record has the values of the descriptor alone, and counts its extents
+  -- the record has the values of the descriptor alone, and counts its extents, with their lines
   pub values : readInto d r .desc ≡ readOf d .descriptor .desc
-  pub extents : counted (readInto d r) ≡ counted (readOf d .descriptor)
+  pub extents : readIn (readInto d r) ≡ readIn (readOf d .descriptor)
   -- building from it gives the verdict of the descriptor alone
   pub verdict : buildOf (readInto d r) .verdict ≡ buildOf (readOf d .descriptor) .verdict
-  -- the table in hand has the size, the count and the rows of the descriptor alone
-  pub disk : SameDisk (inHand d r t) (fresh d)
+  -- the table in hand has the size, the count and the rows of the descriptor alone, with their lines
+  pub table : SameTable (inHand d r t) (fresh d)
+  -- where the descriptor reads and builds, row i of it is the i-th line that says an extent
+  pub lines : readOf d .verdict ≡ Sound → buildOf (readInto d r) .verdict ≡ Sound → (i : ℕ) → i < inHand d r t .count → FromLine d (inHand d r t) i
   -- every mapping and every walk is that of the descriptor alone
   pub maps : (o asked : ℕ) → mapOf (inHand d r t) o asked ≡ mapOf (fresh d) o asked
   pub walks : (places start long : ℕ) → walkOf (inHand d r t) places start long ≡ walkOf (fresh d) places start long
@@ -58,7 +60,7 @@ pub record LentAgain (d : List ℕ) (r : Record) (t : Table) : Type 0 where
 
 -- A table that a record, read or made by hand, is built into, in whatever state it was, is of the disk that the record alone builds: every mapping and every walk is that disk's.
 pub record BuiltAgain (r : Record) (t : Table) : Type 0 where
-  pub disk : SameDisk (buildInto r t) (buildOf r .table)
+  pub table : SameTable (buildInto r t) (buildOf r .table)
   pub maps : (o asked : ℕ) → mapOf (buildInto r t) o asked ≡ mapOf (buildOf r .table) o asked
   pub walks : (places start long : ℕ) → walkOf (buildInto r t) places start long ≡ walkOf (buildOf r .table) places start long
 
@@ -70,12 +72,12 @@ pub record Stored {A : Type 0} (had list has : List A) : Type 0 where
 
 -- What reading a descriptor leaves in a record.
 pub record ReadLeaves (d : List ℕ) (r : Record) : Type 0 where
-  -- extents are stored in the first places
+  -- extents are stored in the first places, each with its line
   pub places : length (r .extents) ≡ most → Stored (r .extents) (storedOf d) (readInto d r .extents)
   -- where every line is sound, those of all lines
-  pub whole : ByLine d → AllSound (sayingsOf d) → storedOf d ≡ extentsIn (sayingsOf d)
+  pub whole : ByLine d → AllSound (sayingsOf d) → storedOf d ≡ readFrom 1 (sayingsOf d)
   -- where a line is refused, those of the lines before it
-  pub before : (l : List ℕ) (n k : ℕ) → ByLine d → (f : FirstRefused d l n k) → storedOf d ≡ extentsIn (sayings 0 (f .before))
+  pub before : (l : List ℕ) (n k : ℕ) → ByLine d → (f : FirstRefused d l n k) → storedOf d ≡ readFrom 1 (sayings 0 (f .before))
   -- where no line is read, none
   pub none : (ByLine d → ⊥) → storedOf d ≡ []
   -- all of them are counted; of a refused descriptor none, and its values are the start values

@@ -14,6 +14,7 @@ use Rattle.text.specs.declared.sector.Bytes.{Bytes}
 use Rattle.lines.specs.Line.{lineOf}
 use Rattle.lines.specs.declared.line.Said.{Said}
 use Rattle.lines.specs.declared.line.Said.the-variants.{Nothing, Extent, Set, Refused as LineRefused}
+use Rattle.lines.specs.declared.record.Record.{Record}
 use Rattle.lines.specs.declared.record.Text.{Text}
 use Rattle.lines.specs.declared.record.VmdkAccessType.{VmdkAccessType}
 use Rattle.lines.specs.declared.record.VmdkParsedExtent.{VmdkParsedExtent}
@@ -31,7 +32,7 @@ use Rattle.maps.specs.Map.{writable, mapOf}
 use Rattle.maps.specs.Place.{bytesIn, sizeOf, placeOf}
 use Rattle.maps.specs.Walk.{Walk}
 use Rattle.theorems.specs.Statements.{sayings, sayingsOf, extentsIn, LineAt, textIn, ExtentIn}
-use Rattle.theorems.specs.Rows.{sourceOf, rowAt}
+use Rattle.theorems.specs.Rows.{sourceOf, rowAt, lineAt, extentAt}
 use Rattle.theorems.specs.Maps.{restOf, shown}
 use Rattle.theorems.specs.Tiling.{All, Tiles}
 
@@ -50,7 +51,19 @@ behind b (x ∷ r) = pick (eqb x b) r (behind b r)
 unfoldable pub inQuotes : List ℕ → List ℕ
 inQuotes l = upTo 0x22 (behind 0x22 l)
 
--- ---- a row's line
+-- ---- the line of a read extent, and of a row
+-- Extent i of a record is said by the i-th line, counted from 0, of those that say one, and has that line's number.
+pub record ExtentFrom (d : List ℕ) (r : Record) (i : ℕ) : Type 0 where
+  pub before : List (List ℕ)
+  pub line : List ℕ
+  pub place : ℕ
+  pub number : ℕ
+  pub there : LineAt d before line place number
+  -- exactly i extents are said before it
+  pub nth : i ≡ length (extentsIn (sayings 0 before))
+  pub says : lineOf place line ≡ Extent (extentAt r i)
+  pub lined : lineAt r i ≡ number
+
 -- Row i is the i-th line, counted from 0, of those that say an extent.
 pub record FromLine (d : List ℕ) (t : Table) (i : ℕ) : Type 0 where
   -- the line with a number, counted from 1, which lies at a place
@@ -65,7 +78,8 @@ pub record FromLine (d : List ℕ) (t : Table) (i : ℕ) : Type 0 where
   pub extent : VmdkParsedExtent
   pub says : lineOf place line ≡ Extent extent
   pub words : ExtentIn d (trimmed line) extent
-  -- the row is as long as that extent, and has its source
+  -- the row has that line's number, is as long as that extent, and has its source
+  pub lined : rowAt t i .line ≡ number
   pub long : rowAt t i .end .0 ≡ rowAt t i .start .0 + bytesIn extent
   pub source : rowAt t i .source ≡ sourceOf (extent .storage)
   -- where it is flat, its name is, in the descriptor, the trimmed text between the line's first two `"`

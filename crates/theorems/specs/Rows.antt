@@ -4,7 +4,7 @@ use mathlib.Core.Bool.{true, false}
 use mathlib.Core.Path.{_≡_}
 use lib.ListN.{length, getD}
 use Rattle.text.specs.Sector.{sectorSize}
-use Rattle.lines.specs.Record.{most, counted, noExtent}
+use Rattle.lines.specs.Record.{most, readIn, counted, noRead, noExtent}
 use Rattle.lines.specs.declared.record.Record.{Record}
 use Rattle.lines.specs.declared.record.Verdict.the-variants.{Sound}
 use Rattle.lines.specs.declared.record.VmdkParsedExtent.{VmdkParsedExtent}
@@ -32,6 +32,10 @@ sourceOf (Flat a name start) = File a (record { 0 = start .0 * sectorSize }) nam
 abbrev pub rowAt : Table → ℕ → Row
 rowAt t i = getD (t .rows) i noRow
 
+-- the line of a record's extent with a number
+abbrev pub lineAt : Record → ℕ → ℕ
+lineAt r i = getD (readIn r) i noRead .line
+
 -- a record's extent with a number
 abbrev pub extentAt : Record → ℕ → VmdkParsedExtent
 extentAt r i = getD (counted r) i noExtent
@@ -54,10 +58,11 @@ pub record InRows (r : Record) (t : Table) : Type 0 where
   pub last : (i : ℕ) → suc i ≡ t .count → rowAt t i .end .0 ≡ t .size .0
   -- the size is the sum of the extents' sizes
   pub size : t .size .0 ≡ sizeOf (counted r)
-  -- each is as long as its extent, and has its source
+  -- each is as long as its extent, and has its source and its line
   pub long : (i : ℕ) → i < t .count → rowAt t i .end .0 ≡ rowAt t i .start .0 + bytesIn (extentAt r i)
   pub source : (i : ℕ) → i < t .count → rowAt t i .source ≡ sourceOf (extentAt r i .storage)
-  -- rows past the count are no access and zeros
+  pub lines : (i : ℕ) → i < t .count → rowAt t i .line ≡ lineAt r i
+  -- rows past the count are no access and zeros, of no line
   pub past : (i : ℕ) → t .count ≤ i → rowAt t i ≡ noRow
   -- for every offset below the size there is exactly one row that holds it, and for the others none
   pub one : (o : ℕ) → o < t .size .0 → OneRow t o

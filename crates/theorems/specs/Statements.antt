@@ -11,7 +11,7 @@ use Rattle.text.specs.Sector.{sectorsOf}
 use Rattle.text.specs.declared.words.Word.the-variants.{Found}
 use Rattle.text.specs.declared.sector.SectorCount.{SectorCount}
 use Rattle.text.specs.declared.sector.SectorCount.the-variants.{Count}
-use Rattle.lines.specs.Record.{most, mostBytes}
+use Rattle.lines.specs.Record.{most, mostBytes, atLine}
 use Rattle.text.specs.Ascii.{ascii}
 use Rattle.lines.specs.Extent.{part, threeWords, fileStartOf}
 use Rattle.lines.specs.Line.{firstBlank, lineOf}
@@ -24,6 +24,7 @@ use Rattle.lines.specs.declared.record.VmdkAccessType.{VmdkAccessType}
 use Rattle.lines.specs.declared.record.VmdkAccessType.the-variants.{RdOnly as ReadOnly, RW as ReadWrite}
 use Rattle.lines.specs.declared.record.VmdkParsedStorage.{VmdkParsedStorage}
 use Rattle.lines.specs.declared.record.VmdkParsedStorage.the-variants.{NoAccess, Zero as Zeros, Flat as File}
+use Rattle.lines.specs.declared.record.ReadExtent.{ReadExtent}
 use Rattle.lines.specs.declared.record.VmdkParsedExtent.{VmdkParsedExtent}
 
 -- a descriptor to be read by line: its length is in range, and it is no sparse file
@@ -53,6 +54,14 @@ extentsIn (Extent x ∷ ss) = x ∷ extentsIn ss
 extentsIn (Nothing ∷ ss) = extentsIn ss
 extentsIn (Set v ∷ ss) = extentsIn ss
 extentsIn (Refused n ∷ ss) = extentsIn ss
+
+-- the same, each with its line: the first of the lines has the number k
+unfoldable pub readFrom : ℕ → List Said → List ReadExtent
+readFrom k [] = []
+readFrom k (Extent x ∷ ss) = atLine k x ∷ readFrom (suc k) ss
+readFrom k (Nothing ∷ ss) = readFrom (suc k) ss
+readFrom k (Set v ∷ ss) = readFrom (suc k) ss
+readFrom k (Refused n ∷ ss) = readFrom (suc k) ss
 
 -- some line says a refusal
 unfoldable pub refuses : List Said → Bool

@@ -11,7 +11,7 @@ use Rattle.lines.specs.Record.{noRecord}
 use Rattle.lines.specs.declared.record.Record.{Record}
 use Rattle.descriptor.specs.Read.{readOf}
 use Rattle.descriptor.specs.Into.{readInto}
-use Rattle.descriptor.proofs.Intos.{into-count, into-counted}
+use Rattle.descriptor.proofs.Intos.{into-count, into-read}
 use Rattle.tables.specs.Build.{noTable, buildOf}
 use Rattle.tables.specs.Into.{buildInto}
 use Rattle.tables.specs.declared.table.Table.{Table}
@@ -32,11 +32,11 @@ pub ruleset rounds = (round-is, needs)
 module _ (d : List ℕ) (r : Record) (t : Table) where
   pub lent-size : valueOf (readOf d .verdict) (buildOf (readInto d r) .verdict) (buildInto (readInto d r) t .size .0) ≡ sizeOf d
   unfolding sizeOf
-  lent-size = rw (into-size (readInto d r) t, build-same (readInto d r) (readOf d .descriptor) (into-count d r) (into-counted d r))
+  lent-size = rw (into-size (readInto d r) t, build-same (readInto d r) (readOf d .descriptor) (into-count d r) (into-read d r))
 
 pub lent-table : (d : List ℕ) → buildInto (readInto d noRecord) noTable ≡ tableIn d
 unfolding tableIn
-lent-table d = into-same (readInto d noRecord) (readOf d .descriptor) noTable (into-count d noRecord) (into-counted d noRecord)
+lent-table d = into-same (readInto d noRecord) (readOf d .descriptor) noTable (into-count d noRecord) (into-read d noRecord)
 
 -- ---- the rounds
 -- there is one more round exactly where one is left

@@ -4,7 +4,7 @@ use Prim.Native.Nat.{ℕ, _+_, _≤_, _<_, min}
 use native.Mathlib.Omega.{arith}
 use mathlib.Core.List.{List, [], _∷_}
 use mathlib.Core.Bool.{Bool}
-use mathlib.Core.Path.{_≡_, refl}
+use mathlib.Core.Path.{_≡_}
 use lib.ListN.{length, getD}
 use lib.Seq.{take-all}
 use borrow.Author.Needs.{needs}
@@ -29,7 +29,7 @@ use Rattle.tables.specs.declared.table.Stop.the-variants.{Done, More, Refused}
 use Rattle.tables.specs.declared.table.Walked.{Walked}
 use Rattle.puts.specs.Put.{Put}
 use Rattle.puts.specs.Decimal.{decimalOf}
-use Rattle.phrases.specs.Line.{field, line, linesTo, spaced, ended, modeWord, nameOf, sourceAt, refusedLine}
+use Rattle.phrases.specs.Line.{field, line, linesTo, spaced, ended, modeWord, nameOf, refusedLine}
 use Rattle.phrases.specs.Opening.{openOf}
 use Rattle.walk_lines.specs.Walk.{rawWords, pieceWords, pieceFrom, pieceLine, stopText, stopLine, walkLines, walkLinesOf}
 use Rattle.phrases.specs.declared.opening.Opened.{Opened}

@@ -17,7 +17,7 @@ fn main() {
     let text = "version=1\nRW 1 ZERO\nRW 1 FLAT \"\" 36028797018963968";
     println!("built a second time: {text:?}");
     let (refusal, second) = build_twice(&descriptor(text));
-    println!("  the Rust, first: refused {} {}", refusal.number, refusal.second);
+    println!("  the Rust, first: refused ({}, by the oracle with line {})", refusal.number, refusal.second);
     match second {
         None => println!("  the Rust, second: refused"),
         Some(image) => println!(

@@ -4,6 +4,7 @@
 //! - `generate lines|names|keys|geometry`: every row of some tokens
 //! - `generate bytes`, `generate characters`: every byte pair and edge, every character
 //! - `generate counts`: every number of extents
+//! - `generate apart`: three extents with other lines between
 //! - `generate long`: inputs from 65,535 to 2,097,154 bytes
 //! - `generate sample`: the fixed list
 
@@ -26,6 +27,7 @@ fn main() -> io::Result<()> {
         ["bytes"] => exhaustive::write_bytes(&mut out)?,
         ["characters"] => exhaustive::write_characters(&mut out)?,
         ["counts"] => exhaustive::write_counts(&mut out)?,
+        ["apart"] => exhaustive::write_apart(&exhaustive::GAPS, &mut out)?,
         ["sample"] => sample::write(&mut out)?,
         ["long"] => exhaustive::write_long(&mut out)?,
         [name] => {
@@ -41,6 +43,6 @@ fn main() -> io::Result<()> {
 /// What to say to bad arguments.
 fn usage() -> io::Error {
     io::Error::other(
-        "generate drawn SEED COUNT | lines | names | keys | geometry | bytes | characters | counts | long | sample",
+        "generate drawn SEED COUNT | lines | names | keys | geometry | bytes | characters | counts | apart | long | sample",
     )
 }

@@ -1,7 +1,7 @@
 //! Opens what is private in imago's text, and says its errors in document 01's numbers.
 //!
 //! The answers are the Rust's own. Added around it are only: the number of an error's text, the
-//! limit of 1,024 extents (16), and the extent's number of 18 to 20.
+//! limit of 1,024 extents (16), and the lines of extents, for the rows and for 18 to 20.
 
 use super::*;
 use crate::storage::Store;
@@ -9,12 +9,12 @@ use crate::storage::Store;
 /// The most extents that are taken, and the most pieces of a walk.
 pub const LIMIT: usize = 1024;
 
-/// Document 01's refusal: its number, and the line or the extent.
+/// Document 01's refusal: its number, and the line.
 #[derive(Clone, Copy, Debug, PartialEq)]
 pub struct Refusal {
     /// 1 to 22
     pub number: u64,
-    /// The line for 4 to 16, the extent from 0 for 18 to 20, otherwise 0
+    /// The line for 4 to 16, the extent's line for 18 to 20, otherwise 0
     pub second: u64,
 }
 
@@ -108,7 +108,7 @@ fn number_of(text: &str, mapping: bool) -> u64 {
     found.unwrap_or_else(|| panic!("no number for the error '{text}'")).1
 }
 
-/// The refusal that an error of reading or building stands for; the extent is not in its text.
+/// The refusal that an error of reading or building stands for; the line of 18 to 20 is not in its text.
 fn refusal_of(error: &io::Error) -> Refusal {
     let text = error.to_string();
     let Some(rest) = text.strip_prefix("store: Line ") else {
@@ -139,16 +139,34 @@ fn begun(descriptor: &Store) -> Vmdk<Store> {
     }
 }
 
+/// The descriptor's lines, the parts between bytes 0A, each with its number from 1.
+fn lines(descriptor: &Store) -> impl Iterator<Item = (u64, &[u8])> {
+    let Store::Descriptor(bytes) = descriptor else { panic!("a data file has no lines") };
+    (1..).zip(bytes.split(|byte| *byte == b'\n'))
+}
+
+/// Whether a line says an extent: once trimmed it has a blank, and an access stands before the first;
+/// so its first word is an access, and another word follows.
+fn says_extent(line: &[u8]) -> bool {
+    let mut words = str::from_utf8(line).expect("a line that was read").split_whitespace();
+    matches!(words.next(), Some("RW" | "RDONLY" | "NOACCESS")) && words.next().is_some()
+}
+
+/// The line of each extent: not the Rust's, computed from the text. All lines were read.
+fn extent_lines(vmdk: &Vmdk<Store>) -> Vec<u64> {
+    let said = lines(&vmdk.descriptor_file).filter(|(_, line)| says_extent(line));
+    let numbers: Vec<u64> = said.map(|(number, _)| number).collect();
+    assert_eq!(numbers.len(), vmdk.parsed_extents.len(), "a line for each extent that the Rust has");
+    numbers
+}
+
 /// The line of the extent past the limit, if reading comes to it: all lines before it are sound.
 fn line_past_limit(descriptor: &Store) -> Option<u64> {
-    let Store::Descriptor(bytes) = descriptor else {
-        return None;
-    };
     let mut vmdk = begun(descriptor);
-    for (index, line) in bytes.split(|byte| *byte == b'\n').enumerate() {
+    for (number, line) in lines(descriptor) {
         vmdk.parse_descriptor_line(str::from_utf8(line).ok()?).ok()?;
         if vmdk.parsed_extents.len() > LIMIT {
-            return Some(index as u64 + 1);
+            return Some(number);
         }
     }
     None
@@ -156,12 +174,12 @@ fn line_past_limit(descriptor: &Store) -> Option<u64> {
 
 /// The extent at which 18 or 19 is given, from 0: the first whose size, or whose sum with those
 /// before it, is above 2^64-1.
-fn extent_too_large(extents: &[VmdkParsedExtent]) -> u64 {
+fn extent_too_large(extents: &[VmdkParsedExtent]) -> usize {
     let mut sum: u128 = 0;
     for (index, extent) in extents.iter().enumerate() {
         sum += u128::from(extent.sectors) * u128::from(VMDK_SECTOR_SIZE);
         if sum > u128::from(u64::MAX) {
-            return index as u64;
+            return index;
         }
     }
     panic!("no extent is too large");
@@ -188,7 +206,7 @@ fn past_limit(descriptor: &Store) -> Option<Refusal> {
     line_past_limit(descriptor).map(|line| Refusal { number: 16, second: line })
 }
 
-/// A refused read, with the limit and the extent's number put around the Rust's refusal.
+/// A refused read, with the limit and the extent's line put around the Rust's refusal.
 fn refused_read(descriptor: &Store, refusal: Refusal) -> Refusal {
     if refusal.number <= 3 {
         return refusal;
@@ -199,7 +217,8 @@ fn refused_read(descriptor: &Store, refusal: Refusal) -> Refusal {
     if refusal.number == 18 || refusal.number == 19 {
         let mut vmdk = begun(descriptor);
         assert!(vmdk.parse_descriptor_file().is_err());
-        return Refusal { second: extent_too_large(&vmdk.parsed_extents), ..refusal };
+        let extent = extent_too_large(&vmdk.parsed_extents);
+        return Refusal { second: extent_lines(&vmdk)[extent], ..refusal };
     }
     refusal
 }
@@ -208,9 +227,13 @@ fn refused_read(descriptor: &Store, refusal: Refusal) -> Refusal {
 fn build(mut vmdk: Vmdk<Store>) -> Result<Image, Refusal> {
     match vmdk.open_implicit_dependencies_gated(NameGate) {
         Ok(()) => Ok(Image(vmdk)),
-        // The list is left filled up to the extent that was refused
-        Err(error) => Err(Refusal { second: vmdk.extents.len() as u64, ..refusal_of(&error) }),
+        Err(error) => Err(refused_build(&vmdk, &error)),
     }
+}
+
+/// A refused build, with the extent's line: the list is left filled up to the extent that was refused.
+fn refused_build(vmdk: &Vmdk<Store>, error: &io::Error) -> Refusal {
+    Refusal { second: extent_lines(vmdk)[vmdk.extents.len()], ..refusal_of(error) }
 }
 
 impl Image {
@@ -237,6 +260,11 @@ impl Image {
     /// The number of rows
     pub fn rows(&self) -> usize {
         self.0.extents.len()
+    }
+
+    /// The rows' lines: not the Rust's, computed from the text
+    pub fn lines(&self) -> Vec<u64> {
+        extent_lines(&self.0)
     }
 
     /// A row's start and end on the disk
@@ -327,7 +355,7 @@ fn name_of(file: &Store) -> &str {
 pub fn build_twice(descriptor: &Store) -> (Refusal, Option<Image>) {
     let mut vmdk = Vmdk::<Store>::open_image(descriptor.clone(), false).expect("a sound read");
     let error = vmdk.open_implicit_dependencies_gated(NameGate).expect_err("a refused build");
-    let refusal = Refusal { second: vmdk.extents.len() as u64, ..refusal_of(&error) };
+    let refusal = refused_build(&vmdk, &error);
     let second = vmdk.open_implicit_dependencies_gated(NameGate);
     (refusal, second.ok().map(|()| Image(vmdk)))
 }
@@ -342,4 +370,35 @@ pub fn by_hand(size: u64, ranges: &[Range<u64>]) -> Image {
         storage: Some(VmdkStorage::Zero),
     }));
     Image(vmdk)
+}
+
+#[cfg(test)]
+mod tests {
+    use super::*;
+    use crate::{descriptors, draw::Draw};
+
+    /// The line of each extent as the Rust reads: those at which its list grows; none of a refused text.
+    fn grown(descriptor: &Store) -> Option<Vec<u64>> {
+        let (mut vmdk, mut numbers) = (begun(descriptor), Vec::new());
+        for (number, line) in lines(descriptor) {
+            vmdk.parse_descriptor_line(str::from_utf8(line).ok()?).ok()?;
+            if vmdk.parsed_extents.len() > numbers.len() {
+                numbers.push(number);
+            }
+        }
+        Some(numbers)
+    }
+
+    #[test]
+    fn lines_at_which_the_list_grows() {
+        let (mut draw, mut extents) = (Draw::new(7), 0);
+        for _ in 0..20_000 {
+            let descriptor = Store::Descriptor(Arc::from(descriptors::descriptor(&mut draw)));
+            if let Ok(vmdk) = Vmdk::<Store>::open_image(descriptor.clone(), false) {
+                assert_eq!(Some(extent_lines(&vmdk)), grown(&descriptor));
+                extents += vmdk.parsed_extents.len();
+            }
+        }
+        assert!(extents > 10_000);
+    }
 }

@@ -12,13 +12,14 @@ use Rattle.text.specs.Sector.{bytesOf, largest}
 use Rattle.text.specs.declared.sector.Sectors.{Sectors}
 use Rattle.text.specs.declared.sector.ByteCount.{ByteCount}
 use Rattle.text.specs.declared.sector.ByteCount.the-variants.{Count, TooLarge}
-use Rattle.lines.specs.Record.{mostBytes, most, noDesc, noExtent, refusal}
+use Rattle.lines.specs.Record.{mostBytes, most, atLine, noDesc, noRead, refusal}
 use Rattle.lines.specs.Line.{lineOf}
 use Rattle.lines.specs.declared.line.Said.{Said}
 use Rattle.lines.specs.declared.line.Said.the-variants.{Nothing, Extent, Set, Refused}
 use Rattle.lines.specs.declared.record.Verdict.{Verdict}
 use Rattle.lines.specs.declared.record.Verdict.the-variants.{Sound, Refused as Stopped}
 use Rattle.lines.specs.declared.record.VmdkDesc.{VmdkDesc}
+use Rattle.lines.specs.declared.record.ReadExtent.{ReadExtent}
 use Rattle.lines.specs.declared.record.VmdkParsedExtent.{VmdkParsedExtent}
 use Rattle.lines.specs.declared.record.Record.{Record}
 use Rattle.descriptor.specs.Read.{leastBytes, sparse, setOf}
@@ -27,7 +28,7 @@ use Rattle.descriptor.specs.declared.stepping.Mark.{Mark}
 
 -- ---- what is stored
 -- one extent, in its place
-abbrev pub stored : Record → ℕ → VmdkParsedExtent → Record
+abbrev pub stored : Record → ℕ → ReadExtent → Record
 stored r at x = record { desc = r .desc; count = r .count; extents = set (r .extents) at x }
 
 -- the values and the count
@@ -42,33 +43,33 @@ sizesOf sum v = record { sum = sum; verdict = v }
 abbrev pub noSizes : Sizes
 noSizes = sizesOf 0 Sound
 
--- the running sum, within 2^64-1; i is the extent's number
+-- the running sum, within 2^64-1, with the size of line k's extent
 abbrev pub sizedBy : ℕ → ℕ → ByteCount → Sizes
-sizedBy i sum (Count b) = pick (leb (sum + b .0) largest) (sizesOf (sum + b .0) Sound) (sizesOf sum (refusal 19 i))
-sizedBy i sum TooLarge = sizesOf sum (refusal 18 i)
+sizedBy k sum (Count b) = pick (leb (sum + b .0) largest) (sizesOf (sum + b .0) Sound) (sizesOf sum (refusal 19 k))
+sizedBy k sum TooLarge = sizesOf sum (refusal 18 k)
 
 -- the first refusal stays
 abbrev pub sizedAfter : Verdict → ℕ → ℕ → ByteCount → Sizes
-sizedAfter Sound i sum c = sizedBy i sum c
-sizedAfter (Stopped r) i sum c = sizesOf sum (Stopped r)
+sizedAfter Sound k sum c = sizedBy k sum c
+sizedAfter (Stopped r) k sum c = sizesOf sum (Stopped r)
 
--- the sizes with one more, that of extent i
+-- the sizes with one more, that of line k's extent
 unfoldable pub sizedOf : Sizes → ℕ → Sectors → Sizes
-sizedOf z i s = sizedAfter (z .verdict) i (z .sum) (bytesOf s)
+sizedOf z k s = sizedAfter (z .verdict) k (z .sum) (bytesOf s)
 
 -- ---- marks
 -- the end, with the values, the count and the verdict that are answered
 abbrev pub endedAt : VmdkDesc → ℕ → Verdict → Mark
-endedAt d n v = record { more = false; count = n; extent = noExtent; desc = d; at = 0; line = 0; left = false; sizes = noSizes; verdict = v }
+endedAt d n v = record { more = false; count = n; extent = noRead; desc = d; at = 0; line = 0; left = false; sizes = noSizes; verdict = v }
 
 -- the end by a refusal: start values, and no extent is counted
 abbrev pub stoppedAt : ℕ → ℕ → Mark
 stoppedAt n s = endedAt noDesc 0 (refusal n s)
 
--- an extent that is to be stored, after n of them
+-- the extent of a line, which is to be stored after n of them
 abbrev pub foundAt : VmdkParsedExtent → VmdkDesc → ℕ → ℕ → ℕ → Bool → Sizes → Mark
 foundAt x d n at line left z =
-    record { more = true; count = n; extent = x; desc = d; at = at; line = line; left = left; sizes = sizedOf z n (x .sectors); verdict = Sound }
+    record { more = true; count = n; extent = atLine line x; desc = d; at = at; line = line; left = left; sizes = sizedOf z line (x .sectors); verdict = Sound }
 
 -- by the verdict on the sizes
 abbrev pub finishBy : Verdict → VmdkDesc → ℕ → Mark

@@ -6,7 +6,7 @@ use lib.ListN.{set, getD}
 use Rattle.text.specs.Ranges.{pick}
 use Rattle.text.specs.Sector.{bytesUpto}
 use Rattle.text.specs.declared.sector.Bytes.{Bytes}
-use Rattle.lines.specs.Record.{most, noExtent, refusal}
+use Rattle.lines.specs.Record.{most, noRead, refusal}
 use Rattle.lines.specs.declared.record.Record.{Record}
 use Rattle.lines.specs.declared.record.Verdict.{Verdict}
 use Rattle.lines.specs.declared.record.Verdict.the-variants.{Sound}
@@ -21,7 +21,7 @@ use Rattle.tables.specs.inside.Opening.{openedOf}
 
 -- what is looked at of a record
 abbrev pub seenOf : Record → ℕ → Seen
-seenOf r i = record { count = r .count; extent = getD (r .extents) i noExtent }
+seenOf r i = record { count = r .count; extent = getD (r .extents) i noRead }
 
 -- the end, with so many rows
 abbrev pub endStep : ℕ → Bytes → Verdict → Step
@@ -35,14 +35,14 @@ stopStep number second = endStep 0 (bytesUpto 0) (refusal number second)
 abbrev pub rowStep : Row → ℕ → Step
 rowStep r i = record { more = true; at = i; row = r; past = i + 1; next = (i + 1) % most; size = r .end; verdict = Sound }
 
--- by what opening an extent gives
-abbrev pub openedStep : Opened → ℕ → Step
-openedStep (Fits r) i = rowStep r i
-openedStep (Refused number) i = stopStep number i
+-- by what opening extent i gives, which has this line
+abbrev pub openedStep : Opened → ℕ → ℕ → Step
+openedStep (Fits r) line i = rowStep r i
+openedStep (Refused number) line i = stopStep number line
 
 -- 23 first; after the last extent the end; otherwise the extent's row
 unfoldable pub stepOf : Seen → ℕ → Bytes → Step
-stepOf v i size = pick (leb (v .count) most) (pick (leb (v .count) i) (endStep (v .count) size Sound) (openedStep (openedOf (v .extent) (size .0)) i)) (stopStep 23 0)
+stepOf v i size = pick (leb (v .count) most) (pick (leb (v .count) i) (endStep (v .count) size Sound) (openedStep (openedOf (v .extent) (size .0)) (v .extent .line) i)) (stopStep 23 0)
 
 -- a table with another row in a place
 abbrev pub storedRow : Table → ℕ → Row → Table

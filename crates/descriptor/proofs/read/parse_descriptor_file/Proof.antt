@@ -49,8 +49,8 @@ use Rattle.descriptor.specs.Read.{readOf}
 use Rattle.descriptor.specs.declared.stepping.Mark.{Mark}
 use Rattle.descriptor.specs.Into.{storedOf}
 use Rattle.descriptor.specs.inside.Stepping.{stored, headed, beginOf, nextOf, Ready}
-use Rattle.lines.proofs.record.VmdkParsedExtent as TE
-use Rattle.lines.proofs.record.VmdkParsedExtent.Laws as TE′
+use Rattle.lines.proofs.record.ReadExtent as TE
+use Rattle.lines.proofs.record.ReadExtent.Laws as TE′
 use Rattle.lines.proofs.record.VmdkDesc as TD
 use Rattle.lines.proofs.record.VmdkDesc.Laws as TD′
 use Rattle.lines.proofs.record.Verdict as TV
@@ -238,9 +238,10 @@ module _ {M : Type 1} (𝓤 : URA M) (H : Heap 𝓤) (A : Atoms 𝓤) (W : Given
       abbrev Turned : X → Out → SProp 𝓤
       Turned z = afterTurn 𝓤 H (Below 𝓤 H A Nearer At z) (afterBlock 𝓤 H (afterSeq 𝓤 H (Wp 𝓤 H C Λ En body.t-3 (atReturn 𝓤 H En Post)) (atReturn 𝓤 H En Post)))
 
-      turns : (z : X) (go : Bool) → z .0 .more ≡ go → Sq W (At z) (runsᴹ C Λ En body.turn-1 (anyQ (Turned z)))
+      -- an extent is to be stored
+      goes-on : (z : X) → z .0 .more ≡ true → Sq W (At z) (runsᴹ C Λ En body.turn-1 (anyQ (Turned z)))
       unfolding afterTurn
-      turns (m, (z, good)) true e =
+      goes-on (m, (z, good)) e =
           let ready : Ready t m = good .right .ready e in
           let owed = LL.owed TM.the-type TM′.the-laws m _ (good .is) in
           assigns ! (of-opd ! (load ! (from ! (fld ! {d = 0} refl (stop !))) (look-in ! 14 (sub ! 0 {d = 0} refl (whole !))))) (from ! (stop !)) (init ! 12 refl (tt, tt)) $
@@ -259,7 +260,11 @@ module _ {M : Type 1} (𝓤 : URA M) (H : Heap 𝓤) (A : Atoms 𝓤) (W : Given
           land-last ! (from ! (stop !)) (store ! 14 refl (typed-mark (nextOf t m) w is)) $ rewrite ! 14 (λ (u : Val). ‵ (fat fullShare TM′.mir l₃ 0 u)) (ap only (LL.tells TM.the-type TM′.the-laws (nextOf t m) _ is)) refl $
           forget ! 8 refl $ forget ! 10 refl $ forget ! 12 refl $
           again ! Nearer At (m, (z, good)) (nextOf t m, (stored z (m .count) (m .extent), turned m z good e w is)) (nearer t m e (ready .1))))))
-      turns (m, (z, good)) false e =
+
+      -- the end
+      ends : (z : X) → z .0 .more ≡ false → Sq W (At z) (runsᴹ C Λ En body.turn-1 (anyQ (Turned z)))
+      unfolding afterTurn
+      ends (m, (z, good)) e =
           let owed = LL.owed TM.the-type TM′.the-laws m _ (good .is) in
           assigns ! (of-opd ! (load ! (from ! (fld ! {d = 0} refl (stop !))) (look-in ! 14 (sub ! 0 {d = 0} refl (whole !))))) (from ! (stop !)) (init ! 12 refl (tt, tt)) $
           rewrite ! 12 (λ (y : Bool). ‵ (fat fullShare tyBool l₄ 0 (vbool y))) e refl $ leaves-loop ! (load ! (from ! (stop !)) (look ! 12 refl)) $ exec ! C Λ En body.t-3 (atRet En Post) $
@@ -268,7 +273,7 @@ module _ {M : Type 1} (𝓤 : URA M) (H : Heap 𝓤) (A : Atoms 𝓤) (W : Given
           use2 W (later (raw (C #put-head (p ∷ LL.val TD.the-type TD′.the-laws (m .desc) ∷ vint w64 (m .count) ∷ []) (λ r. mean 𝓤 H A (Left (headed z (m .desc) (m .count)) r)))))
           (puts-head 𝓤 H A W mem run C fm (named 1) κ q γ b o z known-head (m .desc) (m .count) _ (owed .1 .1 .1 .0) (owed .1 .0 .1)) $ await ! tt $
           calls ! fm (Left (headed z (m .desc) (m .count)))
-          (and-then ! (load ! (from ! (stop !)) (look ! 3 refl)) (and-then ! (load ! (from ! (fld ! {d = 56} refl (stop !))) (look-in ! 13 (sub ! 3 {d = 56} refl (whole !)))) (and-then ! (load ! (from ! (fld ! {d = 8} refl (stop !))) (look-in ! 13 (sub ! 1 {d = 8} refl (whole !)))) (no-more !)))) (λ r.
+          (and-then ! (load ! (from ! (stop !)) (look ! 3 refl)) (and-then ! (load ! (from ! (fld ! {d = 64} refl (stop !))) (look-in ! 13 (sub ! 3 {d = 64} refl (whole !)))) (and-then ! (load ! (from ! (fld ! {d = 8} refl (stop !))) (look-in ! 13 (sub ! 1 {d = 8} refl (whole !)))) (no-more !)))) (λ r.
           await ! tt $ learn ! (λ eu. split ! $ land ! (from ! (stop !)) (init ! 6 refl (subst (λ (u : Val). T (hasTy tyUnit u) × WT u) (sym eu) (tt, tt))) $
           -- `verdict_of`
           use0 W (raw (VerdictOf 𝓤 H A mem run .pre (to-verdict m))) (goes-verdict m (good .is)) $
@@ -278,6 +283,10 @@ module _ {M : Type 1} (𝓤 : URA M) (H : Heap 𝓤) (A : Atoms 𝓤) (W : Given
           returns ! (look ! 20 refl) $ forget ! 4 refl $ forget ! 6 refl $ forget ! 12 refl $ forget ! 14 refl $ forget ! 16 refl $ forget ! 18 refl $ forget ! 20 refl $
           move ! (20 ∷ 21 ∷ []) $ free1 ! $ move ! (18 ∷ 19 ∷ []) $ free1 ! $ move ! (16 ∷ 17 ∷ []) $ free1 ! $ move ! (14 ∷ 15 ∷ []) $ free1 ! $ move ! (12 ∷ 13 ∷ []) $ free1 ! $ move ! (10 ∷ 11 ∷ []) $ free1 ! $ move ! (8 ∷ 9 ∷ []) $ free1 ! $ move ! (6 ∷ 7 ∷ []) $ free1 ! $ move ! (4 ∷ 5 ∷ []) $ free1 ! $ free0 ! $
           by ! (exits m z (end-right t z m All e (good .right)) w is)))))
+
+      turns : (z : X) (go : Bool) → z .0 .more ≡ go → Sq W (At z) (runsᴹ C Λ En body.turn-1 (anyQ (Turned z)))
+      turns z true e = goes-on z e
+      turns z false e = ends z e
 
       looped : (z : X) → Sq W (At z) (runsᴹ C Λ En body.t-2 (atRet En Post))
       looped z = first ! $ blocks ! $ loops ! 𝓣 Nearer Nearer-wf At (λ y. turns y (y .0 .more) refl) z

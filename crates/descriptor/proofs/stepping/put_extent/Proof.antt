@@ -38,11 +38,11 @@ use denote.Triple.Table.{entered}
 use denote.Triple.Walked.{says, needs, Stays, stay-ref, stay-none, walkOf, goes-ref, goes-none, Walks, ends-at, walked, walk-meets}
 use denote.Exit.{yes}
 use denote.Signature.{plain}
-use Rattle.lines.specs.Record.{most, noExtent}
-use Rattle.lines.specs.declared.record.VmdkParsedExtent.{VmdkParsedExtent}
+use Rattle.lines.specs.Record.{most, noRead}
+use Rattle.lines.specs.declared.record.ReadExtent.{ReadExtent}
 use Rattle.lines.specs.declared.record.Record.{Record}
-use Rattle.lines.proofs.record.VmdkParsedExtent as E
-use Rattle.lines.proofs.record.VmdkParsedExtent.Laws as E′
+use Rattle.lines.proofs.record.ReadExtent as E
+use Rattle.lines.proofs.record.ReadExtent.Laws as E′
 use Rattle.lines.proofs.record.VmdkDesc as D
 use Rattle.lines.proofs.record.VmdkDesc.Laws as D′
 use Rattle.lines.proofs.record.Record as T
@@ -59,7 +59,7 @@ use Rattle.descriptor.proofs.stepping.put_extent.Code as code
 abbrev stayed : Stays (put′.ended .signature .params) (put′.ended .kept)
 stayed = (stay-ref (0 ∷ []) tt (plain (λ _. T.the-row)), (stay-none (λ _. usize) yes, (stay-none (λ _. E.the-row) yes, tt)))
 
-module _ {M : Type 1} (𝓤 : URA M) (H : Heap 𝓤) (A : Atoms 𝓤) (W : Given 𝓤 H A) (at-mem : Memory → SProp 𝓤) (run : Routine → Fun 𝓤) (κ : Lft) (q : Share) (b o : ℕ) (γ : GName) (h : Record) (i : ℕ) (x : VmdkParsedExtent) (i-fits : i < 2 ^ 64) where
+module _ {M : Type 1} (𝓤 : URA M) (H : Heap 𝓤) (A : Atoms 𝓤) (W : Given 𝓤 H A) (at-mem : Memory → SProp 𝓤) (run : Routine → Fun 𝓤) (κ : Lft) (q : Share) (b o : ℕ) (γ : GName) (h : Record) (i : ℕ) (x : ReadExtent) (i-fits : i < 2 ^ 64) where
   abbrev r : Record → RefT Record
   r z = record { ptr = (b, o); name = γ; now = z }
 
@@ -71,7 +71,7 @@ module _ {M : Type 1} (𝓤 : URA M) (H : Heap 𝓤) (A : Atoms 𝓤) (W : Given
   v = LL.val E.the-type E′.the-laws x
 
   abbrev Arg : Type 0
-  Arg = RefT Record × (ℕ × (VmdkParsedExtent × Unit {0}))
+  Arg = RefT Record × (ℕ × (ReadExtent × Unit {0}))
 
   abbrev a : Arg
   a = (r h, (i, (x, tt)))
@@ -116,7 +116,7 @@ module _ {M : Type 1} (𝓤 : URA M) (H : Heap 𝓤) (A : Atoms 𝓤) (W : Given
     walk : Is E.the-row x (v ∷ []) → i < most → ent 𝓤 (onEntry 𝓤 H A put′.signature (κ, tt) (q, tt) a vals) (WpFn 𝓤 H C Λ code.function (vptr b o ∷ vint w64 i ∷ v ∷ []) Post)
     walk g within =
         let typed = LL.lawful E.the-type E′.the-laws 𝓤 H A W .typed x _ g .0 in
-        let bytes : i * 40 < 2 ^ 64 = omega arith in
+        let bytes : i * 48 < 2 ^ 64 = omega arith in
         qed W ((‵ (flft κ q) ⊛ ‵ ftrue) ∷ ‵ (owns (MutRef (named 0) κ T.the-row ∷ usize ∷ E.the-row ∷ []) a vals) ∷ []) ∵ split ! $ move ! (2 ∷ []) $ fsplit ! $ fsplit3 ! $ drop ! $
         -- [obs; the borrow; what the others own; the token; true]
         move ! (0 ∷ 1 ∷ 3 ∷ []) $
@@ -126,14 +126,14 @@ module _ {M : Type 1} (𝓤 : URA M) (H : Heap 𝓤) (A : Atoms 𝓤) (W : Given
         assigns ! (bin ! (load ! (from ! (stop !)) (look ! 8 refl)) (lit ! tt) (record { fits = bytes })) (from ! (stop !)) (init ! 4 refl (tt, record { fits = bytes })) $
         assigns ! (addr ! (from ! (hop ! (look ! 10 refl) (fld ! {d = 88} refl (stop !))))) (from ! (stop !)) (init ! 2 refl (tt, tt)) $
         assigns ! (bin ! (load ! (from ! (stop !)) (look ! 2 refl)) (load ! (from ! (stop !)) (look ! 4 refl)) tt) (from ! (stop !)) (init ! 0 refl (tt, tt)) $
-        rewrite ! 0 (λ (m : ℕ). ‵ (fat fullShare tyPtr l₆ 0 (vptr b m))) (sym (place-is 40 (o + 88) i)) refl $
+        rewrite ! 0 (λ (m : ℕ). ‵ (fat fullShare tyPtr l₆ 0 (vptr b m))) (sym (place-is 48 (o + 88) i)) refl $
         move ! (14 ∷ 15 ∷ 16 ∷ []) $ opens ! tt T.the-row {h = h} b o (λ vs. spelt ! T.the-row (Is T.the-row) (shows 𝓤 H A T.the-row) (LL.vals T.the-type T′.the-laws) (LL.tells T.the-type T′.the-laws) fullShare h vs b o $
         move ! (1 ∷ []) $ peeks ! T.the-row (Is T.the-row) (shows 𝓤 H A T.the-row) h (mach h ∷ []) (λ was. move ! (1 ∷ 0 ∷ []) $
         -- [the record's cell; what a Record owns; the open borrow; obs; auth; _6; …; _5; …; _4; …; _3; …; _2; …; _1; …; room for _0; …]
         let parts = LL.owed T.the-type T′.the-laws h (mach h ∷ []) was in
         let rows = parts .1 .1 .0 in
         let long : length us ≡ most = long-at F tuple (E′.the-field-laws .tells) (E.the-type .to) (h .extents) most (rows .1 .0 .1) in
-        assigns ! (of-opd ! (load ! (from ! (stop !)) (look ! 11 refl))) (from ! (hop ! (look ! 5 refl) (stop !))) (store-raw-in ! 0 (item ! us i (tuple (E.the-type .to noExtent)) (subst (λ (n : ℕ). i < n) (sym long) within) long (sub ! 2 {d = 88} refl (whole !))) typed) $
+        assigns ! (of-opd ! (load ! (from ! (stop !)) (look ! 11 refl))) (from ! (hop ! (look ! 5 refl) (stop !))) (store-raw-in ! 0 (item ! us i (tuple (E.the-type .to noRead)) (subst (λ (n : ℕ). i < n) (sym long) within) long (sub ! 2 {d = 88} refl (whole !))) typed) $
         assigns ! (of-opd ! (unit-lit !)) (from ! (stop !)) (init ! 17 refl (tt, tt)) $
         rewrite ! 0 (λ (ws : List Val). ‵ (cellAt fullShare (T.the-row .mir) (with-extents ws ∷ []) b o)) (vals-set F (E.the-type .to) tuple (h .extents) i x) refl $
         move ! (1 ∷ []) $ drop ! $ owned ! T.the-row (Is T.the-row) (LL.makes T.the-type T′.the-plain 𝓤 H A) h′ _ (made g was) $ move ! (1 ∷ 0 ∷ []) $ closes ! tt T.the-row h′ (mach h′ ∷ []) b o $

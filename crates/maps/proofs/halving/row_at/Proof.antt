@@ -101,14 +101,14 @@ module _ {M : Type 1} (𝓤 : URA M) (H : Heap 𝓤) (A : Atoms 𝓤) (W : Given
   module _ (C : Calls 𝓤 H) (Λ : Loops 𝓤 H) where
     walk : i < most → ent 𝓤 (onEntry 𝓤 H A row′.signature (κ, tt) (q, tt) a vals) (WpFn 𝓤 H C Λ code.function (vptr b o ∷ vint w64 i ∷ []) Post)
     walk within =
-        let bytes : i * 48 < 2 ^ 64 = omega arith in
+        let bytes : i * 56 < 2 ^ 64 = omega arith in
         qed W ((‵ (flft κ q) ⊛ ‵ ftrue) ∷ ‵ (owns (ShrRef (named 0) κ T.the-row ∷ usize ∷ []) a vals) ∷ []) ∵ enter ! C Λ code.function (vptr b o ∷ vint w64 i ∷ []) _ $
         alloc1 ! (λ l₀. alloc1 ! (λ l₁. alloc1 ! (λ l₂. alloc1 ! (λ l₃. alloc1 ! (λ l₄. alloc1 ! (λ l₅. alloc1 ! (λ l₆. alloc0 ! $ params1 ! $
         pass1 ! (init ! 10 refl (tt, tt)) $ pass1 ! (init ! 8 refl (tt, record { fits = i-fits })) $ pass0 ! $
         assigns ! (bin ! (load ! (from ! (stop !)) (look ! 8 refl)) (lit ! tt) (record { fits = bytes })) (from ! (stop !)) (init ! 6 refl (tt, record { fits = bytes })) $
         assigns ! (addr ! (from ! (hop ! (look ! 10 refl) (fld ! refl (stop !))))) (from ! (stop !)) (init ! 4 refl (tt, tt)) $
         assigns ! (bin ! (load ! (from ! (stop !)) (look ! 4 refl)) (load ! (from ! (stop !)) (look ! 6 refl)) tt) (from ! (stop !)) (init ! 2 refl (tt, tt)) $
-        rewrite ! 2 (λ (m : ℕ). ‵ (fat fullShare tyPtr l₅ 0 (vptr b m))) (sym (place-is 48 (o + 16) i)) refl $
+        rewrite ! 2 (λ (m : ℕ). ‵ (fat fullShare tyPtr l₅ 0 (vptr b m))) (sym (place-is 56 (o + 16) i)) refl $
         -- a `&` is Copy: one copy of what it owns is kept for the exit, and the other is looked into
         move ! (15 ∷ []) $ fsplit ! $ use1 W (‵ Own ⊛ ‵ Own) (shr-copy 𝓤 H A W (named 0) κ T.the-row .twice x (vptr b o ∷ [])) $ split ! $
         fsplit3 ! $ drop ! $ drop ! $ move ! (17 ∷ []) $ split ! $ move ! (2 ∷ 0 ∷ []) $

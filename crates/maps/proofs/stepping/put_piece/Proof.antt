@@ -88,14 +88,14 @@ module _ {M : Type 1} (𝓤 : URA M) (H : Heap 𝓤) (A : Atoms 𝓤) (W : Given
     walk : Is T.the-row p (v ∷ []) → Room T.the-row (length ys) → n < length ys → ent 𝓤 (onEntry 𝓤 H A put′.signature (κ, tt) (q, tt) a vals) (WpFn 𝓤 H C Λ code.function (s ∷ vint w64 n ∷ v ∷ []) Post)
     walk g room within =
         let typed = LL.lawful T.the-type T′.the-laws 𝓤 H A W .typed p _ g .0 in
-        let bytes : n * 48 < 2 ^ 64 = omega (arith, room .1) in
+        let bytes : n * 40 < 2 ^ 64 = omega (arith, room .1) in
         qed W ((‵ (flft κ q) ⊛ ‵ ftrue) ∷ ‵ (owns (MutSlice (named 0) κ T.the-row ∷ usize ∷ T.the-row ∷ []) a vals) ∷ []) ∵ enter ! C Λ code.function (s ∷ vint w64 n ∷ v ∷ []) _ $
         alloc1 ! (λ l₀. alloc1 ! (λ l₁. alloc1 ! (λ l₂. alloc1 ! (λ l₃. alloc1 ! (λ l₄. alloc1 ! (λ l₅. alloc0 ! $ params1 ! $
         pass1 ! (init ! 8 refl (tt, (tt, (record { fits = room .0 }, tt)))) $ pass1 ! (init ! 6 refl (tt, record { fits = n-fits })) $ pass1 ! (init ! 4 refl typed) $ pass0 ! $
         -- [_5; …; _4; …; _3; …; _2; …; _1; …; room for _0; …; the token; what the parameters own]
         assigns ! (bin ! (load ! (from ! (stop !)) (look ! 6 refl)) (lit ! tt) (record { fits = bytes })) (from ! (stop !)) (init ! 2 refl (tt, record { fits = bytes })) $
         assigns ! (bin ! (load ! (from ! (fld ! refl (stop !))) (look-in ! 8 (sub ! 0 refl (whole !)))) (load ! (from ! (stop !)) (look ! 2 refl)) tt) (from ! (stop !)) (init ! 0 refl (tt, tt)) $
-        rewrite ! 0 (λ (m : ℕ). ‵ (fat fullShare tyPtr l₅ 0 (vptr b m))) (sym (place-is 48 o n)) refl $
+        rewrite ! 0 (λ (m : ℕ). ‵ (fat fullShare tyPtr l₅ 0 (vptr b m))) (sym (place-is 40 o n)) refl $
         move ! (13 ∷ []) $ fsplit ! $ fsplit ! $ move ! (1 ∷ []) $ fsplit ! $ move ! (16 ∷ []) $ split ! $ move ! (2 ∷ 3 ∷ 0 ∷ []) $
         opens-slice ! tt T.the-row ys b o $ elem-out ! T.the-row (Is T.the-row) (shows 𝓤 H A T.the-row) (LL.vals T.the-type T′.the-laws) (LL.tells T.the-type T′.the-laws) fullShare ys n p b o within (λ _.
         -- [list[at]; what it owns; the others; the open borrow; obs; auth; true; list's fact; the rest; _5; …; _4; …; _3; …; _2; …; _1; …; room for _0; …]

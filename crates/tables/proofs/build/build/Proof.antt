@@ -56,7 +56,7 @@ use Rattle.tables.specs.inside.Stepping.{seenOf, stepOf, storedRow, size
 use Rattle.tables.specs.Into.{storedRows}
 use Rattle.text.proofs.sector.Bytes as TD
 use Rattle.text.proofs.sector.Bytes.Laws as TD′
-use Rattle.lines.proofs.record.VmdkParsedExtent as TE
+use Rattle.lines.proofs.record.ReadExtent as TE
 use Rattle.lines.proofs.record.Record as TR
 use Rattle.lines.proofs.record.Record.Laws as TR′
 use Rattle.lines.proofs.record.Verdict as TV
@@ -290,9 +290,10 @@ module _ {M : Type 1} (𝓤 : URA M) (H : Heap 𝓤) (A : Atoms 𝓤) (W : Given
       abbrev Turned : X → Out → SProp 𝓤
       Turned z = afterTurn 𝓤 H (Below 𝓤 H A Nearer At z) (afterBlock 𝓤 H (afterSeq 𝓤 H (Wp 𝓤 H C Λ En body.t-4 (atReturn 𝓤 H En Post)) (atReturn 𝓤 H En Post)))
 
-      turns : (z : X) (go : Bool) → z .0 .more ≡ go → Sq W (At z) (runsᴹ C Λ En body.turn-1 (anyQ (Turned z)))
+      -- a row is to be stored
+      goes-on : (z : X) → z .0 .more ≡ true → Sq W (At z) (runsᴹ C Λ En body.turn-1 (anyQ (Turned z)))
       unfolding afterTurn
-      turns (s, (z, good)) true e =
+      goes-on (s, (z, good)) e =
           let ready : Ready t s = good .right .ready e in
           let inside : s .at < most = omega (arith, ready .0, ready .1 .0) in
           let owed = LL.owed TM.the-type TM′.the-laws s _ (good .is) in
@@ -307,17 +308,21 @@ module _ {M : Type 1} (𝓤 : URA M) (H : Heap 𝓤) (A : Atoms 𝓤) (W : Given
           await ! tt $ learn ! (λ eu. split ! $ land ! (from ! (stop !)) (init ! 10 refl (subst (λ (u : Val). T (hasTy tyUnit u) × WT u) (sym eu) (tt, tt))) $
           -- `seen_at`: the record's `&` is copied
           move ! (2 ∷ []) $ use1 W (‵ Own ⊛ ‵ Own) (shr-copy 𝓤 H A W (named 0) κ₀ TR.the-row .twice x₀ (p₀ ∷ [])) $ split ! $ move ! (4 ∷ 0 ∷ []) $ use2 W (raw (SeenAt 𝓤 H A mem run .pre (to-seen (s .next)))) (goes-seen (s .next) (next-place t s ready) (owed .1 .1 .1 .1 .0 .1)) $
-          calls-at ! fm (SeenAt 𝓤 H A mem run) known-seen (to-seen (s .next)) (and-then ! (load ! (from ! (stop !)) (look ! 22 refl)) (and-then ! (load ! (from ! (fld ! {d = 72} refl (stop !))) (look-in ! 16 (sub ! 4 {d = 72} refl (whole !)))) (no-more !))) (λ w₁.
+          calls-at ! fm (SeenAt 𝓤 H A mem run) known-seen (to-seen (s .next)) (and-then ! (load ! (from ! (stop !)) (look ! 22 refl)) (and-then ! (load ! (from ! (fld ! {d = 80} refl (stop !))) (look-in ! 16 (sub ! 4 {d = 80} refl (whole !)))) (no-more !))) (λ w₁.
           use1 W (later (given (Is TN.the-row (seenOf t (s .next)) (w₁ ∷ [])) (‵ (flft κ₀ q₀)))) (answers-held 𝓤 H A W seen-at.ended (seen-at.clauses 𝓤 H A mem run) (to-seen (s .next)) (A .lft κ₀ q₀) (one-alive 𝓤 H A W (A .lft κ₀ q₀)) (seenOf t (s .next)) (λ r ws. id⊢ 𝓤 _) w₁) $ await ! tt $ learn ! (λ is₁. move ! (2 ∷ 3 ∷ 1 ∷ 0 ∷ []) $
           land ! (from ! (stop !)) (init ! 14 refl (typed-seen (seenOf t (s .next)) w₁ is₁)) $ rewrite ! 14 (λ (u : Val). ‵ (fat fullShare TN′.mir l₅ 0 u)) (ap only (LL.tells TN.the-type TN′.the-laws (seenOf t (s .next)) _ is₁)) refl $
           -- `step_at`
           use0 W (raw (StepAt 𝓤 H A mem run .pre (to-step (seenOf t (s .next)) (s .past) (s .size)))) (goes-step (seenOf t (s .next)) (s .past) (s .size) (is-seen (seenOf t (s .next)) w₁ is₁) (owed .1 .1 .1 .0 .1) (owed .1 .1 .1 .1 .1 .0)) $
-          calls-at-last ! fm (StepAt 𝓤 H A mem run) known-step (to-step (seenOf t (s .next)) (s .past) (s .size)) (and-then ! (load ! (from ! (stop !)) (look ! 15 refl)) (and-then ! (load ! (from ! (fld ! {d = 64} refl (stop !))) (look-in ! 17 (sub ! 3 {d = 64} refl (whole !)))) (and-then ! (load ! (from ! (fld ! {d = 80} refl (stop !))) (look-in ! 17 (sub ! 5 {d = 80} refl (whole !)))) (no-more !)))) (λ w.
+          calls-at-last ! fm (StepAt 𝓤 H A mem run) known-step (to-step (seenOf t (s .next)) (s .past) (s .size)) (and-then ! (load ! (from ! (stop !)) (look ! 15 refl)) (and-then ! (load ! (from ! (fld ! {d = 72} refl (stop !))) (look-in ! 17 (sub ! 3 {d = 72} refl (whole !)))) (and-then ! (load ! (from ! (fld ! {d = 88} refl (stop !))) (look-in ! 17 (sub ! 5 {d = 88} refl (whole !)))) (no-more !)))) (λ w.
           use1 W (later (raw (fact 𝓤 (Is TM.the-row (then′ s) (w ∷ []))))) (answers 𝓤 H A W step-at.ended (step-at.clauses 𝓤 H A mem run) (to-step (seenOf t (s .next)) (s .past) (s .size)) (then′ s) (λ r ws. id⊢ 𝓤 _) w) $ await ! tt $ heard ! (Is TM.the-row (then′ s) (w ∷ [])) (λ is.
           land-last ! (from ! (stop !)) (store ! 16 refl (typed-step (then′ s) w is)) $ rewrite ! 16 (λ (u : Val). ‵ (fat fullShare TM′.mir l₄ 0 u)) (ap only (LL.tells TM.the-type TM′.the-laws (then′ s) _ is)) refl $
           forget ! 8 refl $ forget ! 10 refl $ forget ! 12 refl $ forget ! 14 refl $
           again ! Nearer At (s, (z, good)) (then′ s, (storedRow z (s .at) (s .row), turned s z good e w is)) (nearer t s e ready)))))))
-      turns (s, (z, good)) false e =
+
+      -- the end
+      ends : (z : X) → z .0 .more ≡ false → Sq W (At z) (runsᴹ C Λ En body.turn-1 (anyQ (Turned z)))
+      unfolding afterTurn
+      ends (s, (z, good)) e =
           let owed = LL.owed TM.the-type TM′.the-laws s _ (good .is) in
           assigns ! (of-opd ! (load ! (from ! (fld ! {d = 0} refl (stop !))) (look-in ! 16 (sub ! 0 {d = 0} refl (whole !))))) (from ! (stop !)) (init ! 12 refl (tt, tt)) $
           rewrite ! 12 (λ (y : Bool). ‵ (fat fullShare tyBool l₆ 0 (vbool y))) e refl $ leaves-loop ! (load ! (from ! (stop !)) (look ! 12 refl)) $ exec ! C Λ En body.t-4 (atRet En Post) $
@@ -326,7 +331,7 @@ module _ {M : Type 1} (𝓤 : URA M) (H : Heap 𝓤) (A : Atoms 𝓤) (W : Given
           use2 W (later (raw (C #put-size (p ∷ vd (s .size) ∷ vint w64 (s .past) ∷ []) (λ r. mean 𝓤 H A (Left (sized z (s .size) (s .past)) r)))))
           (puts-size 𝓤 H A W mem run C fm (named 1) κ q γ b o z known-size (s .size) (s .past) _ (owed .1 .1 .1 .1 .1 .0) (owed .1 .1 .1 .0 .1)) $ await ! tt $
           calls ! fm (Left (sized z (s .size) (s .past)))
-          (and-then ! (load ! (from ! (stop !)) (look ! 3 refl)) (and-then ! (load ! (from ! (fld ! {d = 80} refl (stop !))) (look-in ! 15 (sub ! 5 {d = 80} refl (whole !)))) (and-then ! (load ! (from ! (fld ! {d = 64} refl (stop !))) (look-in ! 15 (sub ! 3 {d = 64} refl (whole !)))) (no-more !)))) (λ r.
+          (and-then ! (load ! (from ! (stop !)) (look ! 3 refl)) (and-then ! (load ! (from ! (fld ! {d = 88} refl (stop !))) (look-in ! 15 (sub ! 5 {d = 88} refl (whole !)))) (and-then ! (load ! (from ! (fld ! {d = 72} refl (stop !))) (look-in ! 15 (sub ! 3 {d = 72} refl (whole !)))) (no-more !)))) (λ r.
           await ! tt $ learn ! (λ eu. split ! $ land ! (from ! (stop !)) (init ! 6 refl (subst (λ (u : Val). T (hasTy tyUnit u) × WT u) (sym eu) (tt, tt))) $
           -- `verdict_of`
           use0 W (raw (VerdictOf 𝓤 H A mem run .pre (to-verdict s))) (goes-verdict s (good .is)) $
@@ -336,6 +341,10 @@ module _ {M : Type 1} (𝓤 : URA M) (H : Heap 𝓤) (A : Atoms 𝓤) (W : Given
           returns ! (look ! 24 refl) $ forget ! 4 refl $ forget ! 6 refl $ forget ! 12 refl $ forget ! 16 refl $ forget ! 18 refl $ forget ! 20 refl $ forget ! 22 refl $ forget ! 24 refl $
           move ! (24 ∷ 25 ∷ []) $ free1 ! $ move ! (22 ∷ 23 ∷ []) $ free1 ! $ move ! (20 ∷ 21 ∷ []) $ free1 ! $ move ! (18 ∷ 19 ∷ []) $ free1 ! $ move ! (16 ∷ 17 ∷ []) $ free1 ! $ move ! (14 ∷ 15 ∷ []) $ free1 ! $ move ! (12 ∷ 13 ∷ []) $ free1 ! $ move ! (10 ∷ 11 ∷ []) $ free1 ! $ move ! (8 ∷ 9 ∷ []) $ free1 ! $ move ! (6 ∷ 7 ∷ []) $ free1 ! $ move ! (4 ∷ 5 ∷ []) $ free1 ! $ free0 ! $
           by ! (exits s z (end-right t z s All e (good .right)) w is)))))
+
+      turns : (z : X) (go : Bool) → z .0 .more ≡ go → Sq W (At z) (runsᴹ C Λ En body.turn-1 (anyQ (Turned z)))
+      turns z true e = goes-on z e
+      turns z false e = ends z e
 
       looped : (z : X) → Sq W (At z) (runsᴹ C Λ En body.t-3 (atRet En Post))
       looped z = first ! $ blocks ! $ loops ! 𝓣 Nearer Nearer-wf At (λ y. turns y (y .0 .more) refl) z

@@ -117,7 +117,7 @@ module _ {M : Type 1} (𝓤 : URA M) (H : Heap 𝓤) (A : Atoms 𝓤) (W : Given
     walk : Is E.the-row x (v ∷ []) → i < most → ent 𝓤 (onEntry 𝓤 H A put′.signature (κ, tt) (q, tt) a vals) (WpFn 𝓤 H C Λ code.function (vptr b o ∷ vint w64 i ∷ v ∷ []) Post)
     walk g within =
         let typed = LL.lawful E.the-type E′.the-laws 𝓤 H A W .typed x _ g .0 in
-        let bytes : i * 48 < 2 ^ 64 = omega arith in
+        let bytes : i * 56 < 2 ^ 64 = omega arith in
         qed W ((‵ (flft κ q) ⊛ ‵ ftrue) ∷ ‵ (owns (MutRef (named 0) κ T.the-row ∷ usize ∷ E.the-row ∷ []) a vals) ∷ []) ∵ split ! $ move ! (2 ∷ []) $ fsplit ! $ fsplit3 ! $ drop ! $
         -- [obs; the borrow; what the others own; the token; true]
         move ! (0 ∷ 1 ∷ 3 ∷ []) $
@@ -127,7 +127,7 @@ module _ {M : Type 1} (𝓤 : URA M) (H : Heap 𝓤) (A : Atoms 𝓤) (W : Given
         assigns ! (bin ! (load ! (from ! (stop !)) (look ! 8 refl)) (lit ! tt) (record { fits = bytes })) (from ! (stop !)) (init ! 4 refl (tt, record { fits = bytes })) $
         assigns ! (addr ! (from ! (hop ! (look ! 10 refl) (fld ! {d = 16} refl (stop !))))) (from ! (stop !)) (init ! 2 refl (tt, tt)) $
         assigns ! (bin ! (load ! (from ! (stop !)) (look ! 2 refl)) (load ! (from ! (stop !)) (look ! 4 refl)) tt) (from ! (stop !)) (init ! 0 refl (tt, tt)) $
-        rewrite ! 0 (λ (m : ℕ). ‵ (fat fullShare tyPtr l₆ 0 (vptr b m))) (sym (place-is 48 (o + 16) i)) refl $
+        rewrite ! 0 (λ (m : ℕ). ‵ (fat fullShare tyPtr l₆ 0 (vptr b m))) (sym (place-is 56 (o + 16) i)) refl $
         move ! (14 ∷ 15 ∷ 16 ∷ []) $ opens ! tt T.the-row {h = h} b o (λ vs. spelt ! T.the-row (Is T.the-row) (shows 𝓤 H A T.the-row) (LL.vals T.the-type T′.the-laws) (LL.tells T.the-type T′.the-laws) fullShare h vs b o $
         move ! (1 ∷ []) $ peeks ! T.the-row (Is T.the-row) (shows 𝓤 H A T.the-row) h (mach h ∷ []) (λ was. move ! (1 ∷ 0 ∷ []) $
         -- [the table's cell; what a Table owns; the open borrow; obs; auth; _6; …; _5; …; _4; …; _3; …; _2; …; _1; …; room for _0; …]

@@ -37,15 +37,15 @@ use denote.Triple.Table.{entered}
 use denote.Triple.Walked.{says, needs, Stays, stay-none, stay-none-ref, walkOf, goes-none, goes-none-ref, Walks, ends-at, walked, walk-meets}
 use denote.Exit.{yes}
 use denote.Signature.{plain}
-use Rattle.lines.specs.Record.{most, noExtent}
-use Rattle.lines.specs.declared.record.VmdkParsedExtent.{VmdkParsedExtent}
+use Rattle.lines.specs.Record.{most, noRead}
+use Rattle.lines.specs.declared.record.ReadExtent.{ReadExtent}
 use Rattle.lines.specs.declared.record.Record.{Record}
 use Rattle.tables.specs.declared.build.Seen.{Seen}
 use Rattle.tables.specs.inside.Stepping.{seenOf}
 use Rattle.tables.proofs.build.Seen as S
 use Rattle.tables.proofs.build.Seen.Laws as S′
-use Rattle.lines.proofs.record.VmdkParsedExtent as R
-use Rattle.lines.proofs.record.VmdkParsedExtent.Laws as R′
+use Rattle.lines.proofs.record.ReadExtent as R
+use Rattle.lines.proofs.record.ReadExtent.Laws as R′
 use Rattle.lines.proofs.record.Record as T
 use Rattle.lines.proofs.record.Record.Laws as T′
 use Rattle.lending.proofs.Item.{item, look-raw-in}
@@ -74,10 +74,10 @@ module _ {M : Type 1} (𝓤 : URA M) (H : Heap 𝓤) (A : Atoms 𝓤) (W : Given
   abbrev mach : Val
   mach = LL.tuple-val T.the-type T′.the-laws (T.the-type .to h)
 
-  abbrev elem : VmdkParsedExtent
-  elem = getD (h .extents) i noExtent
+  abbrev elem : ReadExtent
+  elem = getD (h .extents) i noRead
 
-  abbrev one : VmdkParsedExtent → Val
+  abbrev one : ReadExtent → Val
   one r = LL.val R.the-type R′.the-laws r
 
   -- the extent's type as a field, and its machine value
@@ -111,7 +111,7 @@ module _ {M : Type 1} (𝓤 : URA M) (H : Heap 𝓤) (A : Atoms 𝓤) (W : Given
   module _ (C : Calls 𝓤 H) (Λ : Loops 𝓤 H) where
     walk : i < most → ent 𝓤 (onEntry 𝓤 H A row′.signature (κ, tt) (q, tt) a vals) (WpFn 𝓤 H C Λ code.function (vptr b o ∷ vint w64 i ∷ []) Post)
     walk within =
-        let bytes : i * 40 < 2 ^ 64 = omega arith in
+        let bytes : i * 48 < 2 ^ 64 = omega arith in
         qed W ((‵ (flft κ q) ⊛ ‵ ftrue) ∷ ‵ (owns (ShrRef (named 0) κ T.the-row ∷ usize ∷ []) a vals) ∷ []) ∵ enter ! C Λ code.function (vptr b o ∷ vint w64 i ∷ []) _ $
         alloc1 ! (λ l₀. alloc1 ! (λ l₁. alloc1 ! (λ l₂. alloc1 ! (λ l₃. alloc1 ! (λ l₄. alloc1 ! (λ l₅. alloc1 ! (λ l₆. alloc1 ! (λ l₇. alloc0 ! $ params1 ! $
         pass1 ! (init ! 12 refl (tt, tt)) $ pass1 ! (init ! 10 refl (tt, record { fits = i-fits })) $ pass0 ! $
@@ -126,16 +126,16 @@ module _ {M : Type 1} (𝓤 : URA M) (H : Heap 𝓤) (A : Atoms 𝓤) (W : Given
         let count-fits : h .count < 2 ^ 64 = parts .1 .0 .1 in
         let long : length (h .extents) ≡ most = sym (length-map (h .extents) (R.the-type .to)) ∙ rows .1 .0 .1 in
         let long′ : length (map tuple (map (R.the-type .to) (h .extents))) ≡ most = long-at F tuple (R′.the-field-laws .tells) (R.the-type .to) (h .extents) most (rows .1 .0 .1) in
-        let path : getD (map tuple (map (R.the-type .to) (h .extents))) i (one noExtent) ≡ one elem = val-at F tuple (R′.the-field-laws .tells) (R.the-type .to) (h .extents) i noExtent in
-        let is : Is R.the-row elem (one elem ∷ []) = each-at F tuple (R′.the-field-laws .tells) (R.the-type .to) (h .extents) (rows .0) (rows .1 .1) i noExtent (subst (λ (n : ℕ). i < n) (sym long) within) in
+        let path : getD (map tuple (map (R.the-type .to) (h .extents))) i (one noRead) ≡ one elem = val-at F tuple (R′.the-field-laws .tells) (R.the-type .to) (h .extents) i noRead in
+        let is : Is R.the-row elem (one elem ∷ []) = each-at F tuple (R′.the-field-laws .tells) (R.the-type .to) (h .extents) (rows .0) (rows .1 .1) i noRead (subst (λ (n : ℕ). i < n) (sym long) within) in
         let typed = LL.lawful R.the-type R′.the-laws 𝓤 H A W .typed elem _ is .0 in
         let made : Is S.the-row seen (vs ∷ []) = LL.owes S.the-type S′.the-laws seen ((refl, count-fits), (is, tt)) in
         assigns ! (of-opd ! (load ! (from ! (hop ! (look ! 19 refl) (fld ! {d = 80} refl (stop !)))) (look-raw-in ! 0 (sub ! 1 {d = 80} refl (whole !))))) (from ! (stop !)) (init ! 15 refl (tt, record { fits = count-fits })) $
         assigns ! (bin ! (load ! (from ! (stop !)) (look ! 17 refl)) (lit ! tt) (record { fits = bytes })) (from ! (stop !)) (init ! 13 refl (tt, record { fits = bytes })) $
         assigns ! (addr ! (from ! (hop ! (look ! 19 refl) (fld ! {d = 88} refl (stop !))))) (from ! (stop !)) (init ! 11 refl (tt, tt)) $
         assigns ! (bin ! (load ! (from ! (stop !)) (look ! 11 refl)) (load ! (from ! (stop !)) (look ! 13 refl)) tt) (from ! (stop !)) (init ! 9 refl (tt, tt)) $
-        rewrite ! 9 (λ (m : ℕ). ‵ (fat fullShare tyPtr l₆ 0 (vptr b m))) (sym (place-is 40 (o + 88) i)) refl $
-        assigns ! (of-opd ! (load ! (from ! (hop ! (look ! 9 refl) (stop !))) (look-raw-in ! 0 (item ! (map tuple (map (R.the-type .to) (h .extents))) i (one noExtent) (subst (λ (n : ℕ). i < n) (sym long′) within) long′ (sub ! 2 {d = 88} refl (whole !))))))
+        rewrite ! 9 (λ (m : ℕ). ‵ (fat fullShare tyPtr l₆ 0 (vptr b m))) (sym (place-is 48 (o + 88) i)) refl $
+        assigns ! (of-opd ! (load ! (from ! (hop ! (look ! 9 refl) (stop !))) (look-raw-in ! 0 (item ! (map tuple (map (R.the-type .to) (h .extents))) i (one noRead) (subst (λ (n : ℕ). i < n) (sym long′) within) long′ (sub ! 2 {d = 88} refl (whole !))))))
         (from ! (stop !)) (init ! 7 refl (subst (λ (u : Val). Holds (hasTy R′.mir u) × WT u) (sym path) typed)) $
         rewrite ! 7 (λ (u : Val). ‵ (fat fullShare R′.mir l₇ 0 u)) path refl $
         assigns ! (agg ! (and-then ! (load ! (from ! (stop !)) (look ! 15 refl)) (and-then ! (load ! (from ! (stop !)) (look ! 7 refl)) (no-more !)))) (from ! (stop !)) (init ! 21 refl (LL.lawful S.the-type S′.the-laws 𝓤 H A W .typed seen _ made .0)) $

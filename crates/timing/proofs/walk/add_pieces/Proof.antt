@@ -219,14 +219,14 @@ module _ {M : Type 1} (𝓤 : URA M) (H : Heap 𝓤) (A : Atoms 𝓤) (W : Given
       turns (k, good) true e =
           let st : Short k = adds-short ys k (good .adds) e in
           let within : k .at < length ys = inside ys k (good .adds) st in
-          let bytes : k .at * 48 < 2 ^ 64 = omega (arith, room .1, within) in
+          let bytes : k .at * 40 < 2 ^ 64 = omega (arith, room .1, within) in
           let owed = LL.owed TK.the-type TK′.the-laws k _ (good .is) in
           assigns ! (of-opd ! (load ! (from ! (fld ! refl (stop !))) (look-in ! 16 (sub ! 0 refl (whole !))))) (from ! (stop !)) (init ! 10 refl (tt, tt)) $
           rewrite ! 10 (λ (y : Bool). ‵ (fat fullShare tyBool l₇ 0 (vbool y))) e refl $ stays ! (load ! (from ! (stop !)) (look ! 10 refl)) $
           assigns ! (of-opd ! (load ! (from ! (fld ! refl (stop !))) (look-in ! 16 (sub ! 1 refl (whole !))))) (from ! (stop !)) (init ! 14 refl (tt, record { fits = owed .1 .0 .1 })) $
           assigns ! (bin ! (load ! (from ! (stop !)) (look ! 14 refl)) (lit ! tt) (record { fits = bytes })) (from ! (stop !)) (init ! 8 refl (tt, record { fits = bytes })) $
           assigns ! (bin ! (load ! (from ! (fld ! refl (stop !))) (look-in ! 22 (sub ! 0 refl (whole !)))) (load ! (from ! (stop !)) (look ! 8 refl)) tt) (from ! (stop !)) (init ! 6 refl (tt, tt)) $
-          rewrite ! 6 (λ (m : ℕ). ‵ (fat fullShare tyPtr l₉ 0 (vptr b m))) (sym (place-is 48 o (k .at))) refl $
+          rewrite ! 6 (λ (m : ℕ). ‵ (fat fullShare tyPtr l₉ 0 (vptr b m))) (sym (place-is 40 o (k .at))) refl $
           elem-out ! TP.the-row (Is TP.the-row) (shows 𝓤 H A TP.the-row) (LL.vals TP.the-type TP′.the-laws) (LL.tells TP.the-type TP′.the-laws) fullShare ys (k .at) noPiece b o within (λ is-p.
           let typed = LL.lawful TP.the-type TP′.the-laws 𝓤 H A W .typed (elem k) _ is-p .0 in
           -- [list[at]; what it owns; the others; the open borrow; obs; auth; _10; …]
