@@ -21,7 +21,7 @@ ALIAS = re.compile(r"^\s*use\s+\S+\s+as\s+(\S+)\s*$", re.M)
 COMMENT = re.compile(r"(--.*|//.*)$")
 
 # Lemmas that would have the name of the definition that they are about
-LEMMAS = {n: n.replace("-", "_") + "_lem" for n in ("char-at", "num-at", "walk-of", "kept-at", "number-of", "up-to", "row-line", "stored-by", "item-key")}
+LEMMAS = {n: n.replace("-", "_") + "_lem" for n in ("char-at", "num-at", "walk-of", "kept-at", "number-of", "up-to", "row-line", "stored-by", "item-key", "no-extent", "line-end", "run-text", "hint-key", "extent-line", "no-access-line", "zero-piece", "run-codes", "met-from", "refused-line", "after-window")}
 # The same, where port.py had turned the lemma's name already: in the file that has it and in those that import it from there
 TURNED = {
     "crates/descriptor/proofs/Empties.antt": ("no_read", "no_record"),
@@ -30,8 +30,11 @@ TURNED = {
     "crates/theorems/proofs/ExtentLines.antt": ("flat_line",),
     "crates/theorems/proofs/Shared.antt": ("met_by",),
 }
-# A field of that name, which is no lemma
-FIELDS = {"crates/theorems/specs/Counted.antt", "crates/theorems/proofs/Counted.antt", "crates/theorems/proofs/RuledOut.antt"}
+# Fields of such a name, which are no lemmas, and where they stand
+FIELDS = {
+    "kept-at": ("crates/theorems/specs/Counted.antt", "crates/theorems/proofs/Counted.antt", "crates/theorems/proofs/RuledOut.antt"),
+    "no-extent": ("crates/theorems/",),
+}
 # Names within one proof
 INSIDE = {"crates/maps/proofs/halving/+search/Proof.antt": {"code-of": "code_to", "keptOf": "kept_from"}}
 
@@ -122,8 +125,7 @@ def own_names(path, text, names, crates):
         elif m := re.search(r"use " + re.escape(module_of(home)) + r"\.\{([^}]*)\}", text):
             here |= {n: n + "_lem" for n in lemmas if n in re.split(r"[,\s]+", m[1])}
     here |= INSIDE.get(path, {})
-    if path in FIELDS:
-        here["kept-at"] = "kept_at"
+    here |= {n: n.replace("-", "_") for n, places in FIELDS.items() if path.startswith(places)}
     # a module that a proof names as the definition would be named
     for alias in ALIAS.findall(text):
         for n in [n for n, m in here.items() if m == alias and n != alias]:
@@ -167,14 +169,14 @@ def main(argv):
                 if here[n] in there and here[n] not in here:
                     print(f"falls together: {path}: {n} and {here[n]}")
                     bad += 1
-            for n, k in collections.Counter(here.get(n, n) for n in set(defined(text))).items():
+            for n, k in collections.Counter(here.get(n, n) for n in there).items():
                 if k > 1:
                     print(f"twice: {path}: {n}")
                     bad += 1
         aliased = [n for n in here if n in names and here[n] != names[n] and here[n].endswith("_of")]
         turns.append((path, text, turn_file(text, here, aliased)))
     print(f"{len(names)} names, {len(before)} turned before, {bad} that fall together")
-    both = names | {n: names.get(m, m) for n, m in before.items()} | {"kept-at": "kept_at"}
+    both = names | {n: names.get(m, m) for n, m in before.items()} | {n: n.replace("-", "_") for n in FIELDS}
     if apply:
         for path, text, to in turns:
             write(path, to, text)

@@ -169,8 +169,8 @@ module _ (t : List ℕ) {more : Bool} (at : ℕ) (m : more ≡ true) (b : more �
   pub line_order : at ≤ e
   line_order = (line_is t at (b m) q).0
 
-  pub line_end : e ≤ length t
-  line_end = (line_is t at (b m) q).1
+  pub line_end_lem : e ≤ length t
+  line_end_lem = (line_is t at (b m) q).1
 
   line_room : length t ≤ most_bytes → at + length (take (e - at) (drop at t)) ≤ most_bytes
   line_room h = omega (arith, line_is t at (b m) q, line_long t at (b m) q)
@@ -217,7 +217,7 @@ pub mark_end : {whole y : Mark} (t : List ℕ) {more : Bool} (at line : ℕ) (d 
 unfolding mark_in mark_lines left_lines
 mark_end t at line d n z i m p = p ∙ sym (i ∙ rw m)
 
-pub ruleset marks = (line_order, line_end, place_fits, line_fits, line_count, line_less, mark_nothing, mark_set, mark_refused, mark_full, mark_extent, more_within, mark_end, rules)
+pub ruleset marks = (line_order, line_end_lem, place_fits, line_fits, line_count, line_less, mark_nothing, mark_set, mark_refused, mark_full, mark_extent, more_within, mark_end, rules)
 
 -- Rules of `begin`
 pub first_within : (t : List ℕ) → true ≡ true → 0 ≤ length t

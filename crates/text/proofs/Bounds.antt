@@ -83,18 +83,18 @@ trim_within t {a} {e} h =
     (λ q. let g = range_within 0 (max 0 (length t)) (text_at t 0) (text_between t 0) (rw q at h) in omega arith)
     (λ q. let g : Wrong ≡ Range a e = rw q at h in let z : ◌≡◌ {A = ℕ} 0 1 = cc in absurd (omega arith))
 
-run_text : (w : Bool) (l hi : ℕ) (x : Text) → l ≤ hi → Between l hi x → (l ≤ run_text w l x) × (run_text w l x ≤ hi)
+run_text_lem : (w : Bool) (l hi : ℕ) (x : Text) → l ≤ hi → Between l hi x → (l ≤ run_text w l x) × (run_text w l x ≤ hi)
 unfolding run_text
-run_text w l hi done h b = omega arith
-run_text w l hi bad h b = omega arith
-run_text w l hi (char a e c r) h b =
+run_text_lem w l hi done h b = omega arith
+run_text_lem w l hi bad h b = omega arith
+run_text_lem w l hi (char a e c r) h b =
     by_test (alike (blank c) w)
-    (λ q. rw q (let g = run_text w e hi r b.2 b.3 in omega arith))
+    (λ q. rw q (let g = run_text_lem w e hi r b.2 b.3 in omega arith))
     (λ q. rw q (omega arith))
 
 pub run_within : (w : Bool) (t : List ℕ) (at : ℕ) → (at ≤ run_of w t at) × (run_of w t at ≤ max at (length t))
 unfolding run_of
-run_within w t at = run_text w at (max at (length t)) (text_at t at) (omega arith) (text_between t at)
+run_within w t at = run_text_lem w at (max at (length t)) (text_at t at) (omega arith) (text_between t at)
 
 pub word_within : (t : List ℕ) (at : ℕ) {a e : ℕ} → word_of t at ≡ Found a e → (at ≤ a) × (a < e) × (e ≤ length t)
 unfolding word_of

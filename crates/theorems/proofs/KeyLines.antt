@@ -43,7 +43,7 @@ use Rattle.theorems.specs.Statements.{access_text}
 use Rattle.theorems.specs.LineWords.{IsAccess, Item, version, cid, parent_cid, create_type, geometry, key_text, hint_key, UnknownKey, KeyLine, unquoted}
 use Rattle.theorems.specs.GivenWhen.{version_number, parent_hint, geometry_number, unknown_key}
 use Rattle.theorems.specs.Values.{Held, number, text, letters, meant, Holds}
-use Rattle.theorems.proofs.RefusalNumbers.{OfExtent, extent_locked_line, extent_line}
+use Rattle.theorems.proofs.RefusalNumbers.{OfExtent, extent_locked_line, extent_line_lem}
 use Rattle.theorems.proofs.LinePlaces.{Lies, part_lies, kept_at_lem}
 use Rattle.theorems.proofs.ExtentLines.{Given, differs, range_is, behind}
 use Rattle.theorems.proofs.Versions.{v_access, key_said, key_silent}
@@ -96,9 +96,9 @@ item_key_lem (geometry Sectors) = refl
 item_key_lem (geometry Heads) = refl
 item_key_lem (geometry Cylinders) = refl
 
-pub hint_key : key_of hint_key ≡ ParentFileNameHint
+pub hint_key_lem : key_of hint_key ≡ ParentFileNameHint
 unfolding key_of same
-hint_key = refl
+hint_key_lem = refl
 
 pub other : (key word : List ℕ) → (key ≡ word → ⊥) → same key word ≡ false
 other key word n = key_by key word (λ e q. absurd (n q)) (λ e m. e)
@@ -130,15 +130,15 @@ other_access w n =
 -- ---- the line, by its key
 -- what it says
 module _ (p : ℕ) (t key value : List ℕ) (k : KeyLine t key value) where
-  no_access_line : text_line p t ≡ key_line p t
+  no_access_line_lem : text_line p t ≡ key_line p t
   unfolding text_line
-  no_access_line =
+  no_access_line_lem =
       by_test (ltb (first_blank t) (length t))
       (λ e. rw (k.read, e, other_access (take (first_blank t) t) (k.no_extent (ltb-true _ _ e))) (v_access p t (first_blank t)))
       (λ e. rw (k.read, e))
 
   pub key_line_says : text_line p t ≡ value_of (key_of key) (p + (length k.before + 1)) k.after
-  key_line_says = no_access_line ∙ key_said t k.before k.after k.whole k.first p ∙ rw k.named
+  key_line_says = no_access_line_lem ∙ key_said t k.before k.after k.whole k.first p ∙ rw k.named
 
 -- how it comes to be cut
 pub count_split : (b n : ℕ) (l : List ℕ) → count b l ≡ suc n → (a r : List ℕ) × (l ≡ a ++ b ∷ r) × (count b a ≡ 0) × (count b r ≡ n)
@@ -286,8 +286,8 @@ module _ (d : List ℕ) (p : ℕ) (t : List ℕ) (lies : Lies d p t) where
   access_fine : skipped t ≡ false → (w : AccessWord) → access_word (take (first_blank t) t) ≡ w → KeyFine d t (access_line w p t (first_blank t))
   unfolding access_line
   access_fine s NoAccess e = fine_extent d t (no_access_line t (first_blank t)) (extent_locked_line t (first_blank t))
-  access_fine s RdOnly e = fine_extent d t (extent_line ReadOnly p t (first_blank t)) (extent_line ReadOnly p t (first_blank t))
-  access_fine s RW e = fine_extent d t (extent_line ReadWrite p t (first_blank t)) (extent_line ReadWrite p t (first_blank t))
+  access_fine s RdOnly e = fine_extent d t (extent_line ReadOnly p t (first_blank t)) (extent_line_lem ReadOnly p t (first_blank t))
+  access_fine s RW e = fine_extent d t (extent_line ReadWrite p t (first_blank t)) (extent_line_lem ReadWrite p t (first_blank t))
   access_fine s Other e = key_fine s (λ b. not_access (take (first_blank t) t) e)
 
   text_fine : KeyFine d t (text_line p t)

@@ -51,7 +51,7 @@ use Rattle.theorems.proofs.RefusalNumbers.{line_number}
 use Rattle.theorems.proofs.Verdicts.{line_refused}
 use Rattle.theorems.proofs.ExtentLines.{Given, extent_given, extent_says, start_rest, closes, find_first, find_second, before_first, between, after_second, no_quote as find-no-quote, one_quote as find-one-quote, two_quotes, quotes_by, quotes_line, range_is, range_text, range_sound}
 use Rattle.theorems.proofs.Trimming.{scalars_split, count_cut}
-use Rattle.theorems.proofs.KeyLines.{other, key_line_says, count_split, item_key_lem, hint_key, unknown_is, key_given}
+use Rattle.theorems.proofs.KeyLines.{other, key_line_says, count_split, item_key_lem, hint_key_lem, unknown_is, key_given}
 
 -- ---- the words of an extent line
 -- a line that starts with another byte than `#` is not skipped
@@ -147,7 +147,7 @@ module _ (p : ℕ) (t : List ℕ) where
 
   hint_due : (value : List ℕ) → KeyLine t hint_key value → text_line p t ≡ Refused 13
   unfolding value_of
-  hint_due value k = key_line_says p t hint_key value k ∙ rw hint_key
+  hint_due value k = key_line_says p t hint_key value k ∙ rw hint_key_lem
 
   unknown_due : (key value : List ℕ) → KeyLine t key value → UnknownKey key → text_line p t ≡ Refused 15
   unfolding value_of

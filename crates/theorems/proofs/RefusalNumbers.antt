@@ -129,9 +129,9 @@ pub extent_locked_line : (t : List ℕ) (end : ℕ) → OfExtent (no_access_line
 unfolding no_access_line
 extent_locked_line t end = extent_locked (second_of t end)
 
-pub extent_line : (a : VmdkAccessType) (p : ℕ) (t : List ℕ) (end : ℕ) → OfExtent (extent_line a p t end)
+pub extent_line_lem : (a : VmdkAccessType) (p : ℕ) (t : List ℕ) (end : ℕ) → OfExtent (extent_line a p t end)
 unfolding extent_line
-extent_line a p t end = extent_second (second_of t end) a p t
+extent_line_lem a p t end = extent_second (second_of t end) a p t
 
 -- ---- a line
 -- what is refused is refused with a number from 5 to 15
@@ -156,8 +156,8 @@ late_of_extent (Refused n) h = omega arith
 late_access : (w : AccessWord) (p : ℕ) (t : List ℕ) (end : ℕ) → Late (access_line w p t end)
 unfolding access_line
 late_access NoAccess p t end = late_of_extent (no_access_line t end) (extent_locked_line t end)
-late_access RdOnly p t end = late_of_extent (extent_line ReadOnly p t end) (extent_line ReadOnly p t end)
-late_access RW p t end = late_of_extent (extent_line ReadWrite p t end) (extent_line ReadWrite p t end)
+late_access RdOnly p t end = late_of_extent (extent_line ReadOnly p t end) (extent_line_lem ReadOnly p t end)
+late_access RW p t end = late_of_extent (extent_line ReadWrite p t end) (extent_line_lem ReadWrite p t end)
 late_access Other p t end = late_of_key (key_line p t) (key_keys p t)
 
 late_line : (p : ℕ) (t : List ℕ) → Late (text_line p t)

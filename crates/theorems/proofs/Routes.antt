@@ -37,7 +37,7 @@ pub record PieceOf (x : VmdkParsedExtent) (i begin pos upto : ℕ) (p : Piece) :
   pub row : p.row ≡ i
   pub reads : readable x.storage ≡ true
   pub bytes : (d : ℕ) → within i x.storage (pos - begin + d) ≡ byte_of p d
-  pub zero_piece : ZeroPlain p
+  pub zero_piece_lem : ZeroPlain p
 
 -- over extents numbered from i on, which begin at a place, from a position up to a place: the pieces, the stop and the position reached
 pub data Route : ℕ → ℕ → List VmdkParsedExtent → ℕ → ℕ → List Piece → Stop → ℕ → Type 0 where
@@ -148,7 +148,7 @@ module _ (begin i pos left : ℕ) (x : VmdkParsedExtent) (xs : List VmdkParsedEx
 
   zero_of : (acc : VmdkAccessType) → x.storage ≡ Zero acc → PieceOf x i begin pos (pos + part) (zero_piece pos part i)
   zero_of acc e =
-      record { start = refl; run = refl; row = refl; reads = rw e; bytes = λ d. rw e; zero_piece = λ q. (refl, refl) }
+      record { start = refl; run = refl; row = refl; reads = rw e; bytes = λ d. rw e; zero_piece_lem = λ q. (refl, refl) }
 
   raw_of : (acc : VmdkAccessType) (name : Text) (at : Sectors) → x.storage ≡ Flat acc name at → PieceOf x i begin pos (pos + part) (raw_piece pos part i (at.0 * sector_size + (pos - begin)) (writable acc))
   raw_of acc name at e =
@@ -158,7 +158,7 @@ module _ (begin i pos left : ℕ) (x : VmdkParsedExtent) (xs : List VmdkParsedEx
         row = refl;
         reads = rw e;
         bytes = λ d. rw (e, add_assoc);
-        zero_piece = λ q. let z : ◌≡◌ {A = ℕ} 0 1 = cc in absurd (omega arith);
+        zero_piece_lem = λ q. let z : ◌≡◌ {A = ℕ} 0 1 = cc in absurd (omega arith);
       }
 
 module _ (all : List VmdkParsedExtent) (t : Table) (maps : (o asked : ℕ) → MapsBy all t o asked) (size : t.size.0 ≡ size_of all) where

@@ -175,9 +175,9 @@ width_zero (c ∷ cs) h = absurd (omega (arith, width_cons c cs, encode_some c))
 
 -- a text that goes on from a place with the encodings of scalar values
 module _ (t : List ℕ) (at : ℕ) (cs : List ℕ) (s : scalars cs ≡ true) (e : drop at t ≡ encode_all cs) where
-  pub run_codes : (w : Bool) → run_of w t at ≡ at + width (run_codes w cs)
+  pub run_codes_lem : (w : Bool) → run_of w t at ≡ at + width (run_codes w cs)
   unfolding run_of text_at
-  run_codes w = rw (e, spelled cs at s) (run_spelled w at cs)
+  run_codes_lem w = rw (e, spelled cs at s) (run_spelled w at cs)
 
   pub run_past : (w : Bool) → drop (at + width (run_codes w cs)) t ≡ encode_all (past_codes w cs)
   run_past w = rw (← drop-drop (width (run_codes w cs)) at t, e, encode_run w cs) (drop-append_seam (encode_all (run_codes w cs)) (encode_all (past_codes w cs)))
@@ -189,7 +189,7 @@ module _ (t : List ℕ) (at : ℕ) (cs : List ℕ) (s : scalars cs ≡ true) (e 
   word_at : word_of t at ≡ word_in start (start + width (word_codes cs))
   unfolding word_of
   word_at =
-      rw (run_codes t at cs s e true, run_codes t start (past_codes true cs) (past_scalars true cs s) (run_past t at cs s e true) false)
+      rw (run_codes_lem t at cs s e true, run_codes_lem t start (past_codes true cs) (past_scalars true cs s) (run_past t at cs s e true) false)
 
   -- there is none exactly if only blanks are left in front of the end
   pub word_none_codes : (word_of t at ≡ None) ↔ (word_codes cs ≡ [])

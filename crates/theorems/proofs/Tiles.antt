@@ -61,7 +61,7 @@ route_zeros (over h) = tt
 route_zeros (done h) = tt
 route_zeros (pass h r) = route_zeros r
 route_zeros (shut a b c e) = tt
-route_zeros (piece a b c m r) = (m.zero_piece, route_zeros r)
+route_zeros (piece a b c m r) = (m.zero_piece_lem, route_zeros r)
 
 -- (b), (f): the position reached, that no access lies before it, and why the route ends there
 abbrev pub Why : ℕ → ℕ → List VmdkParsedExtent → ℕ → ℕ → Stop → ℕ → Type 0
@@ -147,16 +147,16 @@ met_empty begin i (x ∷ xs) from to h =
     met_skip begin i x xs from to (omega arith) ∙ met_empty (begin + bytes_in x) (suc i) xs from to h
 
 -- a range that begins before the extents may begin anywhere before them
-met_from : (begin i : ℕ) (xs : List VmdkParsedExtent) (a b to : ℕ) → a ≤ begin → b ≤ begin → met_from begin i xs a to ≡ met_from begin i xs b to
+met_from_lem : (begin i : ℕ) (xs : List VmdkParsedExtent) (a b to : ℕ) → a ≤ begin → b ≤ begin → met_from begin i xs a to ≡ met_from begin i xs b to
 unfolding met_from
-met_from begin i [] a b to h g = refl
-met_from begin i (x ∷ xs) a b to h g =
+met_from_lem begin i [] a b to h g = refl
+met_from_lem begin i (x ∷ xs) a b to h g =
     let e : max begin a ≡ max begin b = omega arith in
-    rw (e, met_from (begin + bytes_in x) (suc i) xs a b to (omega arith) (omega arith))
+    rw (e, met_from_lem (begin + bytes_in x) (suc i) xs a b to (omega arith) (omega arith))
 
 met_piece : (begin i pos hi q : ℕ) (x : VmdkParsedExtent) (xs : List VmdkParsedExtent) (p : Piece) (ps : List Piece) → begin ≤ pos → pos < begin + bytes_in x → pos < hi → min hi (begin + bytes_in x) ≤ q → PieceOf x i begin pos (min hi (begin + bytes_in x)) p → rows_of ps ≡ met_from (begin + bytes_in x) (suc i) xs (min hi (begin + bytes_in x)) q → rows_of (p ∷ ps) ≡ met_from begin i (x ∷ xs) pos q
 met_piece begin i pos hi q x xs p ps a b c d m e =
-    rw (met_here begin i x xs pos q m.reads (omega arith), m.row, e, met_from (begin + bytes_in x) (suc i) xs (min hi (begin + bytes_in x)) pos q (omega arith) (omega arith))
+    rw (met_here begin i x xs pos q m.reads (omega arith), m.row, e, met_from_lem (begin + bytes_in x) (suc i) xs (min hi (begin + bytes_in x)) pos q (omega arith) (omega arith))
 
 pub route_met : {begin i pos hi q : ℕ} {xs : List VmdkParsedExtent} {ps : List Piece} {s : Stop} → Route begin i xs pos hi ps s q → rows_of ps ≡ met_from begin i xs pos q
 route_met (over h) = unfold met_from in refl

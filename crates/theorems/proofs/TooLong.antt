@@ -95,9 +95,9 @@ refused_number n rest h e =
     let v : Value n ≡ Value 24 = sym (digits_read_back n (omega arith)) ∙ ap (number_of largest) f ∙ digits_read_back 24 (omega arith) in
     let z : n ≡ 24 = cc in absurd (omega arith)
 
-refused_line : (x : Refusal) → x.number ≤ 23 → refused_line x ≡ due → ⊥
+refused_line_lem : (x : Refusal) → x.number ≤ 23 → refused_line x ≡ due → ⊥
 unfolding refused_line line
-refused_line x h e = refused_number x.number _ h e
+refused_line_lem x h e = refused_number x.number _ h e
 
 -- ---- by what is answered
 by_23 : (d : List ℕ) (x : Refusal) → RefusedBy d x → x.number ≤ 23
@@ -148,8 +148,8 @@ opened_due d Usage t o e = let h : ◌≡◌ {A = ℕ} 0 13 = ap length e in abs
 
 refused_due : (d : List ℕ) (c : Command) (x : Refusal) → RefusedBy d x → said d c ≡ due → ⊥
 refused_due d Report x r e = report_due d e
-refused_due d (Map at long) x r e = refused_line x (by_23 d x r) (sym ((only_refused d x r).map at long) ∙ e)
-refused_due d (Walks at long places) x r e = refused_line x (by_23 d x r) (sym ((only_refused d x r).walk at long places) ∙ e)
+refused_due d (Map at long) x r e = refused_line_lem x (by_23 d x r) (sym ((only_refused d x r).map at long) ∙ e)
+refused_due d (Walks at long places) x r e = refused_line_lem x (by_23 d x r) (sym ((only_refused d x r).walk at long places) ∙ e)
 refused_due d Usage x r e = let h : ◌≡◌ {A = ℕ} 0 13 = ap length e in absurd (omega (arith, h))
 
 said_due : (d : List ℕ) (c : Command) → said d c ≡ due → ⊥

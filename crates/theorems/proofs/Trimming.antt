@@ -20,7 +20,7 @@ use Rattle.text.specs.declared.words.Trimmed.TheVariants.{Range}
 use Rattle.text.specs.declared.words.Word.TheVariants.{None}
 use Rattle.text.proofs.Flat.{by_test}
 use Rattle.theorems.proofs.Sequences.{sound_cut}
-use Rattle.theorems.proofs.Spellings.{end_blank, Open, past_open, trimmed_codes, trim_place, encode_run, past_scalars, encode_some, run_codes, run_past as codes-past, word_none_codes}
+use Rattle.theorems.proofs.Spellings.{end_blank, Open, past_open, trimmed_codes, trim_place, encode_run, past_scalars, encode_some, run_codes_lem, run_past as codes-past, word_none_codes}
 
 -- ---- the code points of a text, and those that trimming takes away
 pub encode_append : (xs bs : List ℕ) → encode_all (xs ++ bs) ≡ encode_all xs ++ encode_all bs
@@ -194,7 +194,7 @@ second_there ms t s f e h n =
     let e₂ : drop 0 t ≡ encode_all ms = e in
     let run : List ℕ = run_codes false ms in
     let rest : List ℕ = past_codes false ms in
-    let at = run_codes t 0 ms s e₂ false in
+    let at = run_codes_lem t 0 ms s e₂ false in
     let b = none_blank rest ((word_none_codes t (0 + length (encode_all run)) rest (past_scalars false ms s) (codes-past t 0 ms s e₂ false)).0 (rw at at n)) in
     let q : ms ≡ end_codes run = sym f ∙ ap end_codes (sym (run_past false ms)) ∙ end_append run rest b in
     let l₁ : length run + length rest ≡ length ms = sym (length-append run rest) ∙ ap length (run_past false ms) in

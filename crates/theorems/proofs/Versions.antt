@@ -48,7 +48,7 @@ use Rattle.lines.specs.declared.record.Verdict.TheVariants.{Sound}
 use Rattle.lines.specs.declared.record.VmdkDesc.{VmdkDesc}
 use Rattle.lines.specs.declared.record.ReadExtent.{ReadExtent}
 use Rattle.descriptor.specs.declared.read.Read.{Read}
-use Rattle.theorems.proofs.RefusalNumbers.{OfExtent, extent_locked_line, extent_line}
+use Rattle.theorems.proofs.RefusalNumbers.{OfExtent, extent_locked_line, extent_line_lem}
 use Rattle.theorems.proofs.Trimming.{Trimming, trim_front, trim_back, first_byte, encode_append, encode_cut, scalars_split, cut_at, blanks_free, count_append, find_none, find_behind}
 use Rattle.theorems.proofs.Sayings.{From, from_sizes, from_answer, set_all, never}
 use Rattle.theorems.proofs.Verdicts.{late, lines_sound, lines_checked, accepted_lines, accepted_checked}
@@ -126,8 +126,8 @@ module _ (p : ℕ) (t : List ℕ) (k : NoVersion (key_line p t)) where
   no_access : (w : AccessWord) (end : ℕ) → NoVersion (access_line w p t end)
   unfolding access_line
   no_access NoAccess end = extent_no (no_access_line t end) (extent_locked_line t end)
-  no_access RdOnly end = extent_no (extent_line ReadOnly p t end) (extent_line ReadOnly p t end)
-  no_access RW end = extent_no (extent_line ReadWrite p t end) (extent_line ReadWrite p t end)
+  no_access RdOnly end = extent_no (extent_line ReadOnly p t end) (extent_line_lem ReadOnly p t end)
+  no_access RW end = extent_no (extent_line ReadWrite p t end) (extent_line_lem ReadWrite p t end)
   no_access Other end = k
 
   no_text : NoVersion (text_line p t)

@@ -35,11 +35,11 @@ pub blanks_long : length no_pieces ≡ most
 unfolding no_pieces
 blanks_long = length-replicate most no_piece
 
-after_window : (at window : ℕ) {end : ℕ} → end ≡ (at + window) % 2 ^ 64 → end % 2147483648 ≡ after_window at window
-after_window at window e = omega (arith, e)
+after_window_lem : (at window : ℕ) {end : ℕ} → end ≡ (at + window) % 2 ^ 64 → end % 2147483648 ≡ after_window at window
+after_window_lem at window e = omega (arith, e)
 
 pub toured_is : (k : Tour) (s : ℕ) {end : ℕ} → end ≡ (k.at + k.window) % 2 ^ 64 → record { more = ltb 1 k.left; at = end % 2147483648; window = k.window; left = k.left - 1; sum = s } ≡ toured_of k s
-toured_is k s e = ap (λ (n : ℕ). record { more = ltb 1 k.left; at = n; window = k.window; left = k.left - 1; sum = s }) (after_window k.at k.window e)
+toured_is k s e = ap (λ (n : ℕ). record { more = ltb 1 k.left; at = n; window = k.window; left = k.left - 1; sum = s }) (after_window_lem k.at k.window e)
 
 pub ruleset tours = (toured_is, rules)
 
