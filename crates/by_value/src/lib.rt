@@ -1,4 +1,6 @@
 // Bridges by value: for callers that lend nothing. Nothing but the program's answers and the replay uses them.
+#![tactic(auto)]
+
 ghost use Rattle.std.specs.Prelude.{◌≡◌};
 ghost use Rattle.maps.specs.Map.{map_of};
 ghost use Rattle.maps.specs.Walk.{no_pieces};

@@ -1,4 +1,6 @@
 // Reading a descriptor.
+#![tactic(auto)]
+
 pub mod empty;
 pub mod read;
 mod stepping;

@@ -1,2 +1,4 @@
 // The lines of a whole disk.
+#![tactic(auto)]
+
 pub mod whole;

@@ -1,2 +1,4 @@
 // The keys of a descriptor.
+#![tactic(auto)]
+
 pub mod key;

@@ -1,1 +1,2 @@
 // Laws for walks by hand over what is lent: see proofs/. There is no code here.
+#![tactic(auto)]

@@ -1,2 +1,4 @@
 // The line of a mapping.
+#![tactic(auto)]
+
 pub mod map;

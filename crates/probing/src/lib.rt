@@ -1,2 +1,4 @@
 // Whether bytes are a descriptor.
+#![tactic(auto)]
+
 pub mod probe;

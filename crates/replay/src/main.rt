@@ -1,4 +1,6 @@
 // Replays a case file from standard input through the library, and writes the answers: compare/FORMAT.md has both formats.
+#![tactic(auto)]
+
 mod case;
 mod line;
 mod out;

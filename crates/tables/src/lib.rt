@@ -1,3 +1,5 @@
 // The extent table, and building it.
+#![tactic(auto)]
+
 pub mod build;
 pub mod table;

@@ -1,4 +1,6 @@
 // The text rules: characters by Unicode, lines, the place of a byte, quotes, trimming, words, numbers, and the two kinds that they count.
+#![tactic(auto)]
+
 pub mod blank;
 pub mod find;
 pub mod number;

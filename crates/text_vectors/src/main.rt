@@ -2,6 +2,8 @@
 //
 // A vector is a line `KIND LENGTH TAG A B`, then LENGTH bytes of text and a byte 0A. TAG, A and B are the answer that is expected;
 // the input, and the output that goes with it, are made by compare/vectors.py, which takes the answers from Python's own Unicode.
+#![tactic(auto)]
+
 mod answers;
 
 use answers::Answer;

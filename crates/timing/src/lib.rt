@@ -1,4 +1,6 @@
 // What the benchmark calls: reading, probing, mapping and walking, each answered by one number.
+#![tactic(auto)]
+
 mod map;
 mod read;
 mod sum;

@@ -1,6 +1,8 @@
 // vmdkmap: reads a VMDK descriptor on standard input, and writes what its disk is made of, or what lies at an offset of it.
 //
 // All answers are `report`'s, which are proved. Here bytes are read and written.
+#![tactic(auto)]
+
 use report::answer::{answer, answer_space, input_space};
 use report::command::{Command, read_command};
 

@@ -2,6 +2,8 @@
 //
 // A case is a line: a file of data/, and the program's arguments. The output that goes with the list is made by compare/texts.py,
 // which takes the answers from compare/paper.py.
+#![tactic(auto)]
+
 use report::answer::{answer, answer_space, input_space};
 use report::command::{Command, read_command};
 use text::words::Word;

@@ -1,2 +1,4 @@
 // The lines of a walk.
+#![tactic(auto)]
+
 pub mod walk;
