@@ -3,5 +3,3 @@ pub mod Steps
 pub mod Stores
 pub mod Intos
 pub mod Turns
-pub mod Puts
-pub mod Parsed

@@ -11,14 +11,14 @@ use text::find::{line_end, starts_with};
 use text::sector::{ByteCount, Sectors};
 
 // The sizes of the extents so far: their sum, and the first refusal among them.
-#[derive(Drop)]
+#[derive(Clone, Copy)]
 pub(crate) struct Sizes {
     pub sum: u64,
     pub verdict: Verdict,
 }
 
 // Where the reading stands: at an extent that is to be stored, or at the end.
-#[derive(Drop)]
+#[derive(Clone, Copy)]
 pub(crate) struct Mark {
     // Whether there is an extent to store
     pub more: bool,

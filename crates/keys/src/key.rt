@@ -5,7 +5,7 @@ ghost use Rattle.keys.specs.Key.{key_of, geometry_key};
 use text::find::{is, starts_with};
 
 // A disk geometry value.
-#[derive(Drop)]
+#[derive(Clone, Copy)]
 pub enum Geometry {
     Sectors,
     Heads,
@@ -13,7 +13,7 @@ pub enum Geometry {
 }
 
 // What a key says.
-#[derive(Drop)]
+#[derive(Clone, Copy)]
 pub enum Key {
     Version,
     Cid,

@@ -6,7 +6,7 @@ use mathlib.Core.Path.{◌≡◌}
 use Prim.Native.Nat.{ℕ}
 use mathlib.Core.List.{List, [], ◌∷◌}
 use seplogic.Ra.Ura.{Ura}
-use seplogic.Ra.TreeShare.{full_share}
+use base.Fraction.{full_share}
 use mir.Syntax.{Name, Lifetime, named}
 use mir.Val.{Val, vunit, vptr}
 use base.Logic.{ent, sep, guard, guard_i, via, mono_l}

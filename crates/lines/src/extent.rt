@@ -9,14 +9,14 @@ use text::sector::{SectorCount, Sectors};
 use text::words::{Word, next_word};
 
 // The second word: a sector count, and where the word ends.
-#[derive(Drop)]
+#[derive(Clone, Copy)]
 pub enum Second {
     Count(Sectors, usize),
     Bad,
 }
 
 // The third word: the extent's type.
-#[derive(Drop)]
+#[derive(Clone, Copy)]
 pub enum Third {
     Missing,
     Zero,
@@ -25,7 +25,7 @@ pub enum Third {
 }
 
 // The file's name and where the text after it starts, or the number of the line's refusal.
-#[derive(Drop)]
+#[derive(Clone, Copy)]
 pub enum FileName {
     Name(Text, usize),
     Refused(u8),

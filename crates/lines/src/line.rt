@@ -11,7 +11,7 @@ use text::number::{Num, number};
 use text::words::{Trimmed, inner, run_end, trim};
 
 // A value that a line gives to the descriptor.
-#[derive(Drop)]
+#[derive(Clone, Copy)]
 pub enum Setting {
     Version(u32),
     Cid(Text),
@@ -23,7 +23,7 @@ pub enum Setting {
 }
 
 // What a line says: nothing, an extent, a value, or the number of its refusal.
-#[derive(Drop)]
+#[derive(Clone, Copy)]
 pub enum Said {
     Nothing,
     Extent(VmdkParsedExtent),
@@ -32,7 +32,7 @@ pub enum Said {
 }
 
 // The first word of a line, where it is one of the three that an extent line begins with.
-#[derive(Drop)]
+#[derive(Clone, Copy)]
 pub enum AccessWord {
     NoAccess,
     RdOnly,

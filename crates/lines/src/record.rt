@@ -2,14 +2,14 @@
 use text::sector::Sectors;
 
 // A text of the descriptor: its place and its length in bytes. An empty text is place 0, length 0.
-#[derive(Drop)]
+#[derive(Clone, Copy)]
 pub struct Text {
     pub place: usize,
     pub length: usize,
 }
 
 // Access type for VMDK extents. (No access is a storage of its own.)
-#[derive(Drop)]
+#[derive(Clone, Copy)]
 pub enum VmdkAccessType {
     // Read-only access
     RdOnly,
@@ -18,7 +18,7 @@ pub enum VmdkAccessType {
 }
 
 // VMDK extent information after parsing, before opening
-#[derive(Drop)]
+#[derive(Clone, Copy)]
 pub enum VmdkParsedStorage {
     // No access
     NoAccess,
@@ -29,7 +29,7 @@ pub enum VmdkParsedStorage {
 }
 
 // VMDK extent descriptor information after parsing, before opening
-#[derive(Drop)]
+#[derive(Clone, Copy)]
 pub struct VmdkParsedExtent {
     // Number of sectors.
     pub sectors: Sectors,
@@ -38,14 +38,14 @@ pub struct VmdkParsedExtent {
 }
 
 // An extent that was read: the line of the descriptor that said it, counted from 1, and what it said. In a hand-made record the line is whatever its maker wrote.
-#[derive(Drop)]
+#[derive(Clone, Copy)]
 pub struct ReadExtent {
     pub line: usize,
     pub extent: VmdkParsedExtent,
 }
 
 // VMDK descriptor information.
-#[derive(Drop)]
+#[derive(Clone, Copy)]
 pub struct VmdkDesc {
     // Version number of the VMDK descriptor
     pub version: u32,
@@ -75,14 +75,14 @@ pub struct Record {
 }
 
 // Why an input is refused: document 01's number, and its second number.
-#[derive(Drop)]
+#[derive(Clone, Copy)]
 pub struct Refusal {
     pub number: u8,
     pub second: usize,
 }
 
 // Whether an input is refused.
-#[derive(Drop)]
+#[derive(Clone, Copy)]
 pub enum Verdict {
     Sound,
     Refused(Refusal),

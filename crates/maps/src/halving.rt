@@ -12,14 +12,14 @@ use text::sector::Bytes;
 const ENDS: usize = 4096;
 
 // The numbers beside the rows.
-#[derive(Drop)]
+#[derive(Clone, Copy)]
 pub(crate) struct Heading {
     pub size: Bytes,
     pub count: usize,
 }
 
 // Where a search ended: at a row, or nowhere, and how many rows were looked at.
-#[derive(Drop)]
+#[derive(Clone, Copy)]
 pub(crate) struct Hit {
     pub found: bool,
     pub row: usize,
@@ -27,7 +27,7 @@ pub(crate) struct Hit {
 }
 
 // What is left to search after a look at the row in the middle, and the answer where nothing is.
-#[derive(Drop)]
+#[derive(Clone, Copy)]
 pub(crate) struct Next {
     pub more: bool,
     pub lo: usize,

@@ -12,7 +12,7 @@ use tables::table::{Mapping, Row, ShallowMapping, Source, Table};
 
 // What a search of a table found: the numbers beside the rows, where it ended, and of the row that holds the offset its source, and how much
 // of it lies before the offset and how much from there on. Where no row does, that is no access and zeros.
-#[derive(Drop)]
+#[derive(Clone, Copy)]
 pub(crate) struct Found {
     pub heading: Heading,
     pub hit: Hit,

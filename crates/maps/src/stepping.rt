@@ -11,7 +11,7 @@ use lines::record::MOST;
 use tables::table::{Mapping, Piece, PieceSource, ShallowMapping, Stop, Table, Walked};
 
 // Where a walk stands before a step: whether to go on, and if not, why.
-#[derive(Drop)]
+#[derive(Clone, Copy)]
 pub(crate) struct Stand {
     pub go: bool,
     // How many pieces are written
@@ -24,7 +24,7 @@ pub(crate) struct Stand {
 }
 
 // Where a walk stands after a mapping: whether there is one more piece, which, where it ends, and if there is none, why.
-#[derive(Drop)]
+#[derive(Clone, Copy)]
 pub(crate) struct Mark {
     pub more: bool,
     // How many pieces are written

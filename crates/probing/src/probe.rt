@@ -9,7 +9,7 @@ use text::number::{Num, number};
 use text::words::{Trimmed, inner, trim};
 
 // What probing finds on a line: it passes it over, or answers.
-#[derive(Drop)]
+#[derive(Clone, Copy)]
 pub enum Probed {
     Pass,
     Answer(bool),

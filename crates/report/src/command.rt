@@ -7,7 +7,7 @@ use text::find::is;
 use text::number::{Num, number};
 
 // What the program is asked.
-#[derive(Drop)]
+#[derive(Clone, Copy)]
 pub enum Command {
     // The report
     Report,

@@ -1,5 +1,3 @@
 pub mod Builds
 pub mod Endings
-pub mod Puts
 pub mod Into
-pub mod Built

@@ -1,5 +1,5 @@
 // Building the extent table: rows follow each other from 0, one for each extent. The record and the table are lent: each function with a reference is thin, and proved by hand; what decides has plain parameters.
-ghost use Rattle.std.specs.Prelude.{◌≡◌, [], ◌<◌};
+ghost use Rattle.std.specs.Prelude.{◌≡◌, [], ◌<◌, length};
 ghost use Rattle.text.specs.Sector.{bytes_upto};
 ghost use Rattle.lines.specs.Record.{most, filled};
 ghost use Rattle.tables.specs.Build.{row_of, no_row, no_table, build_of};
@@ -14,21 +14,21 @@ use lines::record::{
 use text::sector::{ByteCount, Bytes, Sectors};
 
 // What opening an extent gives: its row, or a refusal's number.
-#[derive(Drop)]
+#[derive(Clone, Copy)]
 enum Opened {
     Fits(Row),
     Refused(u8),
 }
 
 // What is looked at of a record at a step: how many extents it counts, and one of them.
-#[derive(Drop)]
+#[derive(Clone, Copy)]
 pub(crate) struct Seen {
     pub count: usize,
     pub extent: ReadExtent,
 }
 
 // Where building stands.
-#[derive(Drop)]
+#[derive(Clone, Copy)]
 pub(crate) struct Step {
     // Whether there is one more row to store, where, and which
     pub more: bool,
@@ -225,7 +225,8 @@ fn verdict_of(s: Step) -> Verdict
 // The record's count and extent i. By hand.
 pub(crate) fn seen_at(record: &Record, i: usize) -> Seen
     requires { i < most }
-    ensures { result ≡ seen_of «record».now i }
+    ensures seen { result ≡ seen_of «record».now i }
+    ensures places { length «record».now.extents ≡ most }
 {
     Seen {
         count: record.count,
@@ -236,7 +237,8 @@ pub(crate) fn seen_at(record: &Record, i: usize) -> Seen
 // Stores one row. By hand.
 pub(crate) fn put_row(into: &mut Table, at: usize, row: Row)
     requires { at < most }
-    ensures { into.new ≡ stored_row into.old at row }
+    ensures stored { into.new ≡ stored_row into.old at row }
+    ensures places { length into.old.rows ≡ most }
 {
     into.rows[at] = row;
 }

@@ -3,7 +3,7 @@ use lines::record::{MOST, Text, Verdict, VmdkAccessType};
 use text::sector::Bytes;
 
 // Where a row's bytes come from.
-#[derive(Drop)]
+#[derive(Clone, Copy)]
 pub enum Source {
     // No access
     NoAccess,
@@ -14,7 +14,7 @@ pub enum Source {
 }
 
 // VMDK extent: the part of the virtual disk that it covers, from its start up to its end, its source, and the line of the descriptor that said it, counted from 1 (of a hand-made extent, whatever its maker wrote).
-#[derive(Drop)]
+#[derive(Clone, Copy)]
 pub struct Row {
     pub start: Bytes,
     pub end: Bytes,
@@ -38,7 +38,7 @@ pub struct Built {
 }
 
 // What lies at an offset of the disk.
-#[derive(Drop)]
+#[derive(Clone, Copy)]
 pub enum ShallowMapping {
     // The disk's end, or no row
     Eof,
@@ -51,7 +51,7 @@ pub enum ShallowMapping {
 }
 
 // A mapping: what lies there, for how many bytes, and how many rows were looked at.
-#[derive(Drop)]
+#[derive(Clone, Copy)]
 pub struct Mapping {
     pub mapping: ShallowMapping,
     pub run: u64,
@@ -59,14 +59,14 @@ pub struct Mapping {
 }
 
 // Where a piece's bytes come from.
-#[derive(Drop)]
+#[derive(Clone, Copy)]
 pub enum PieceSource {
     Zero,
     Raw,
 }
 
 // A part of the disk that lies in one row. (The two bytes stand last, beside each other: so a piece has 40 bytes.)
-#[derive(Drop)]
+#[derive(Clone, Copy)]
 pub struct Piece {
     // Where it starts on the disk
     pub start: u64,
@@ -82,7 +82,7 @@ pub struct Piece {
 }
 
 // Why a walk stopped.
-#[derive(Drop)]
+#[derive(Clone, Copy)]
 pub enum Stop {
     // Nothing is left, or the disk has ended
     Done,
@@ -93,7 +93,7 @@ pub enum Stop {
 }
 
 // What a walk did: how many pieces it wrote, why it stopped, the position reached, and the sum of rows looked at.
-#[derive(Drop)]
+#[derive(Clone, Copy)]
 pub struct Walked {
     pub count: usize,
     pub stop: Stop,

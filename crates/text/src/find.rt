@@ -4,14 +4,14 @@ ghost use Rattle.text.specs.inside.Blocks.{each, is_other};
 ghost use Rattle.text.specs.Find.{find_at, line_end, same, begins, strip_of};
 
 // Where a byte is found, or that it stands nowhere.
-#[derive(Drop)]
+#[derive(Clone, Copy)]
 pub enum Place {
     Here(usize),
     Nowhere,
 }
 
 // A part of a text: where it starts, and where it ends.
-#[derive(Drop)]
+#[derive(Clone, Copy)]
 pub struct Part {
     pub from: usize,
     pub to: usize,

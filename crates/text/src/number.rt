@@ -3,7 +3,7 @@ ghost use Rattle.std.specs.Prelude.{◌≡◌};
 ghost use Rattle.text.specs.Number.{digits_at, sign_of, number_of};
 
 // A number, or that a text is none.
-#[derive(Drop)]
+#[derive(Clone, Copy)]
 pub enum Num {
     Value(u64),
     Bad,

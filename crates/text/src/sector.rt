@@ -5,22 +5,22 @@ ghost use Rattle.text.specs.Sector.{sectors_in, bytes_upto, sectors_of, bytes_of
 use crate::number::{Num, number};
 
 // A number of sectors. The number is the kind's own: no other crate reaches it but through a function that names what becomes of it.
-#[derive(Drop)]
+#[derive(Clone, Copy)]
 pub struct Sectors(u64);
 
 // A number of bytes, likewise.
-#[derive(Drop)]
+#[derive(Clone, Copy)]
 pub struct Bytes(u64);
 
 // A sector count, or that a text is no number.
-#[derive(Drop)]
+#[derive(Clone, Copy)]
 pub enum SectorCount {
     Count(Sectors),
     Bad,
 }
 
 // A byte count, or that it is above 2^64-1.
-#[derive(Drop)]
+#[derive(Clone, Copy)]
 pub enum ByteCount {
     Count(Bytes),
     TooLarge,

@@ -4,14 +4,14 @@ ghost use Rattle.text.specs.Utf8.{lead_of, char_at};
 ghost use Rattle.text.specs.inside.Places.{cap, tail_at};
 
 // What a first byte says: how many bytes follow, the range of the first of them, and below what its own bits are.
-#[derive(Drop)]
+#[derive(Clone, Copy)]
 pub enum Lead {
     Row(usize, u8, u8, u8),
     Never,
 }
 
 // What stands at a place: a character with its code point and its width in bytes.
-#[derive(Drop)]
+#[derive(Clone, Copy)]
 pub enum Char {
     Scalar(u32, usize),
     Bad,

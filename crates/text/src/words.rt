@@ -9,7 +9,7 @@ use crate::utf8::{Char, next_char};
 use crate::valid::valid;
 
 // The part of a text that trimming leaves, or that the text is no UTF-8.
-#[derive(Drop)]
+#[derive(Clone, Copy)]
 pub enum Trimmed {
     Range(usize, usize),
     Wrong,
@@ -94,7 +94,7 @@ pub fn inner(t: &[u8]) -> &[u8]
 }
 
 // The next word: where it starts and where it ends, or that there is none.
-#[derive(Drop)]
+#[derive(Clone, Copy)]
 pub enum Word {
     Found(usize, usize),
     None,

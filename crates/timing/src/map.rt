@@ -11,7 +11,7 @@ use tables::build;
 use tables::table::{Mapping, ShallowMapping, Table};
 
 // Where the loop stands: whether there is one more mapping, its offset and the length asked, how many are left, the sum so far, and whether offsets ascend.
-#[derive(Drop)]
+#[derive(Clone, Copy)]
 pub(crate) struct Tally {
     pub more: bool,
     pub offset: u64,

@@ -10,7 +10,7 @@ use tables::build;
 use text::sector::Bytes;
 
 // Where the loop stands: whether there is one more round, how many are left, and the sum so far.
-#[derive(Drop)]
+#[derive(Clone, Copy)]
 pub(crate) struct Rounds {
     pub more: bool,
     pub left: u64,

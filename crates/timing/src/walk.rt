@@ -13,7 +13,7 @@ use tables::build;
 use tables::table::{Piece, PieceSource, Table};
 
 // Where the adding of a list's pieces stands: whether there is one more piece, its number, how many there are, and the sum so far.
-#[derive(Drop)]
+#[derive(Clone, Copy)]
 pub(crate) struct Adding {
     pub more: bool,
     pub at: usize,
@@ -22,7 +22,7 @@ pub(crate) struct Adding {
 }
 
 // Where the loop of walks stands: whether there is one more walk, its position and its window, how many are left, and the sum so far.
-#[derive(Drop)]
+#[derive(Clone, Copy)]
 pub(crate) struct Tour {
     pub more: bool,
     pub at: u64,

@@ -1,7 +1,0 @@
-use Rattle.lines.proofs.Extents.{extents}
-use Rattle.lines.proofs.extent.no_access_from_descriptor_line.Statement.{statement}
-use Rattle.lines.proofs.extent.no_access_from_descriptor_line.Tie as tie
-
-pub no_access_from_descriptor_line_spec : {M : Type 1} → statement M
-no_access_from_descriptor_line_spec =
-    tie.close (tie.spec (λ c κs. search extents) (λ c. search extents) (λ c. search extents) (λ c. search extents) (λ c. search extents))

@@ -1,8 +1,0 @@
-use Rattle.lines.proofs.Kepts.{keeps}
-use Rattle.lines.proofs.line.keep.Statement.{statement}
-use Rattle.lines.proofs.line.keep.Tie as tie
-
-pub keep_spec : {M : Type 1} → statement M
-keep_spec =
-    tie.close
-    (tie.spec (λ c κs. search keeps) (λ c. search keeps) (λ c κs. search keeps) (λ c. search keeps) (λ c κs. search keeps) (λ c. search keeps) (λ c. search keeps))
