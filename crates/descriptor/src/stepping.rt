@@ -1,5 +1,5 @@
 // Reading from one extent to the next. What decides has plain parameters; the two functions that store have a `&mut Record`, and are proved by hand.
-ghost use Rattle.std.specs.Prelude.{◌≡◌, ◌<◌};
+ghost use Rattle.std.specs.Prelude.{◌≡◌, ◌<◌, length};
 ghost use Rattle.lines.specs.Record.{most, refusal};
 ghost use Rattle.descriptor.specs.Read.{set_of};
 ghost use Rattle.descriptor.specs.inside.Stepping.{stored, headed, no_sizes, sized_by, sized_of, ended_at, stopped_at, finish_of, found_at, mark_in, begin_of, next_of, Within, Ready};
@@ -277,7 +277,8 @@ pub(crate) fn verdict_of(m: Mark) -> Verdict
 // Stores one extent. By hand.
 pub(crate) fn put_extent(into: &mut Record, at: usize, x: ReadExtent)
     requires { at < most }
-    ensures { into.new ≡ stored into.old at x }
+    ensures stored { into.new ≡ stored into.old at x }
+    ensures places { length into.old.extents ≡ most }
 {
     into.extents[at] = x;
 }
