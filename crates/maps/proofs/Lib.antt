@@ -2,8 +2,5 @@ pub mod Alike
 pub mod Halves
 pub mod Mappings
 pub mod Steps
-pub mod Put
 pub mod Runs
 pub mod Marks
-pub mod Lent
-pub mod Searched

@@ -1,5 +1,5 @@
 // The row search, over a table that is lent. Each function with a `&Table` is thin, and proved by hand; what decides has plain parameters.
-ghost use Rattle.std.specs.Prelude.{◌≡◌, ◌+◌, ◌-◌, ◌<◌, ◌≤◌, get_or};
+ghost use Rattle.std.specs.Prelude.{◌≡◌, ◌+◌, ◌-◌, ◌<◌, ◌≤◌, ◌^◌, get_or};
 ghost use Rattle.lines.specs.Record.{most};
 ghost use Rattle.tables.specs.Build.{no_row};
 ghost use Rattle.maps.specs.Map.{nowhere, middle as middle_of, halve};
@@ -46,10 +46,13 @@ fn row_at(t: &Table, i: usize) -> Row
 
 // The numbers beside the rows. By hand.
 pub(crate) fn head(t: &Table) -> Heading
-    ensures { result ≡ head_of t.now }
+    ensures heading { result ≡ head_of t.now }
+    ensures size_fits { t.now.size.0 < 2 ^ 64 }
 {
+    let size = t.size;
+    let _fits = size.offset();
     Heading {
-        size: t.size,
+        size,
         count: t.count,
     }
 }
