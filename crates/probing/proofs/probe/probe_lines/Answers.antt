@@ -1,0 +1,23 @@
+use Rattle.probing.proofs.Probing.{probing}
+use Rattle.probing.proofs.probe.probe_lines.Goals as goal
+
+pub slice_bounds-probe_line-count : goal.slice_bounds-probe_line-count
+slice_bounds-probe_line-count c = search probing
+
+pub slice_bounds-probe_line-start : goal.slice_bounds-probe_line-start
+slice_bounds-probe_line-start c = search probing
+
+pub slice_bounds-probe_line-end : goal.slice_bounds-probe_line-end
+slice_bounds-probe_line-end c = search probing
+
+pub returns-in-Answer : goal.returns-in-Answer
+returns-in-Answer c = search probing
+
+pub returns-then-d-e : goal.returns-then-d-e
+returns-then-d-e c = search probing
+
+pub loop-b-smaller : goal.loop-b-smaller
+loop-b-smaller c = search probing
+
+pub loop-b-preserved : goal.loop-b-preserved
+loop-b-preserved c = search probing
