@@ -63,6 +63,12 @@ KeyIs key Unknown = UnknownKey key
 key_by : {C : Type 0} (key word : List ℕ) → (same key word ≡ true → key ≡ word → C) → (same key word ≡ false → (key ≡ word → ⊥) → C) → C
 key_by key word f g = by_test (same key word) (λ e. f e (same_is key word e)) (λ e. g e (differs key word e))
 
+-- a key that is none of the three is that of no geometry value
+no_geometry : (key : List ℕ) → (key ≡ key_text (geometry Sectors) → ⊥) → (key ≡ key_text (geometry Heads) → ⊥) → (key ≡ key_text (geometry Cylinders) → ⊥) → (g : Geometry) → key ≡ key_text (geometry g) → ⊥
+no_geometry key a b c Sectors = a
+no_geometry key a b c Heads = b
+no_geometry key a b c Cylinders = c
+
 pub key_tells : (key : List ℕ) → KeyIs key (key_of key)
 unfolding key_of geometry_key
 key_tells key =
@@ -76,7 +82,7 @@ key_tells key =
     (λ e₇ n₇. key_by key (ascii "ddb.geometry.cylinders") (λ e q. rw (e₁, e₂, e₃, e₄, e₅, e₆, e₇, e) q)
     (λ e₈ n₈. by_test (begins key (ascii "ddb.")) (λ e. rw (e₁, e₂, e₃, e₄, e₅, e₆, e₇, e₈, e) tt)
     (λ e. rw (e₁, e₂, e₃, e₄, e₅, e₆, e₇, e₈, e)
-    (elim [ version ↦ n₁ | cid ↦ n₂ | parent_cid ↦ n₃ | create_type ↦ n₄ | geometry g ↦ elim g [ Sectors ↦ n₆ | Heads ↦ n₇ | Cylinders ↦ n₈ ] ], n₅, e))))))))))
+    (elim [ version ↦ n₁ | cid ↦ n₂ | parent_cid ↦ n₃ | create_type ↦ n₄ | geometry g ↦ no_geometry key n₆ n₇ n₈ g ], n₅, e))))))))))
 
 -- the key of an item
 abbrev pub item_key : Item → Key
