@@ -7,7 +7,7 @@ use Prim.Native.Nat.{ℕ}
 use mathlib.Core.List.{List, [], ◌∷◌}
 use seplogic.Ra.Ura.{Ura}
 use base.Fraction.{full_share}
-use mir.Syntax.{Name, Lifetime, named}
+use mir.Syntax.{Callee, Lifetime, named}
 use mir.Val.{Val, vunit, vptr}
 use base.Logic.{ent, sep, guard, guard_i, via, mono_l}
 use base.Fml.{Lft, Share, GName, flft, fres}
@@ -59,7 +59,7 @@ module _ {M : Type 1} {𝓤 : Ura M} (𝓛 : Logic 𝓤) (R : RattleType) (ℓ :
           move ! (1 ∷ []) $ lft_end ! tt $ move ! (0 ∷ 2 ∷ 1 ∷ []) $
           use3 𝓛 (later (‵ ((MutRef ℓ κ R).own_val (at_ref γ z) (vptr b o ∷ [])) ⊛ ‵ (flft κ q))) (comes_back 𝓛 R ℓ κ (ν ∷ []) q γ b o δ h z) $ await ! tt $ at_once ! $ check ! e $ done !)
 
-      pub lends_on : (C : Calls 𝓤 H) (fm : FmC 𝓤 H 𝓛.laws C) (f : Name) (vals : List Val) → ((ν : ℕ) (δ : GName) → ent 𝓤 (Stated.pre (y ν δ)) (C f vals (Stated.post (y ν δ))))
+      pub lends_on : (C : Calls 𝓤 H) (fm : FmC 𝓤 H 𝓛.laws C) (f : Callee) (vals : List Val) → ((ν : ℕ) (δ : GName) → ent 𝓤 (Stated.pre (y ν δ)) (C f vals (Stated.post (y ν δ))))
           → ((ν : ℕ) (δ : GName) → ent 𝓤 (sep 𝓤 (A.lft (ν ∷ []) full_share) (sem 𝓛 ((MutRef (named 0) (ν ∷ []) R).own_val (at_ref δ h) (vptr b o ∷ [])))) (Stated.pre (y ν δ)))
           → ent 𝓤 (sep 𝓤 (sem 𝓛 ((MutRef ℓ κ R).own_val (at_ref γ h) (vptr b o ∷ []))) (A.lft κ q)) (H.⇛ (C f vals (λ r. H.⇛ (guard 𝓤 (r ≡ vunit) (sep 𝓤 (sem 𝓛 ((MutRef ℓ κ R).own_val (at_ref γ z) (vptr b o ∷ []))) (A.lft κ q))))))
       lends_on C fm f vals known goes =

@@ -1,5 +1,5 @@
 -- A local struct that is lent as a `&` for a lifetime, and comes back once that is over, as it was. A local's cell is a cell of the machine's raw form with what the struct owns, which `Denote/Lend.antt` lends whole. It says nothing of the crate.
---     lends_shared     the cell of a local at d  ⊢ ⇛ ∃ γ. own (the `&κ` ((b, 0), γ, d)) ∗ what the lender keeps
+--     lends_shared     the cell of a local at d  ⊢ ⇛ own (the `&κ` ((b, 0), d)) ∗ what the lender keeps, of a type that is lent with no token
 --     shared_back      [†κ] ∗ what the lender keeps  ⊢ ⇛ the local's cell again
 -- Assumes `Logic`.
 use mathlib.Core.Path.{refl}
@@ -18,7 +18,8 @@ use denote.RattleType.{RattleType}
 use denote.Laws.{Is, shows}
 use denote.Memory.{lone, cell_at, part_at, part_of}
 use denote.Ref.{ShrRef}
-use denote.Lend.{lends_shr}
+use denote.Copied.{Copied}
+use denote.Lend.{lends_free}
 use denote.Steps.{owned, facts}
 use denote.Struct.Declared.{Declared, row, fields}
 use denote.Struct.Struct.{Plains}
@@ -34,9 +35,9 @@ module _ {M : Type 1} {𝓤 : Ura M} (𝓛 : Logic 𝓤) (T : Declared) (L : LL.
   abbrev τ : Ty
   τ = lone R.mir
 
-  -- the reference, under the name γ
-  abbrev pub Lends : Lifetime → GName → Fml
-  Lends ℓ γ = (ShrRef ℓ κ R).own_val (record { ref_ptr = (b, 0); now = d }) (vptr b 0 ∷ [])
+  -- the reference
+  abbrev pub Lends : Lifetime → Fml
+  Lends ℓ = (ShrRef ℓ κ R).own_val (record { ref_ptr = (b, 0); now = d }) (vptr b 0 ∷ [])
 
   -- what the lender keeps
   abbrev pub Kept : Fml
@@ -46,13 +47,13 @@ module _ {M : Type 1} {𝓤 : Ura M} (𝓛 : Logic 𝓤) (T : Declared) (L : LL.
   abbrev pub Cell : Val → Fml
   Cell v = fat full_share τ b 0 v
 
-  pub lends_shared : (ℓ : Lifetime) (v : Val) → Is R d (v ∷ []) → ent 𝓤 (sem 𝓛 (Cell v)) (H.⇛ (ex 𝓤 (λ (γ : GName). sep 𝓤 (sem 𝓛 (Lends ℓ γ)) (sem 𝓛 Kept))))
+  -- the type's law says that it is lent with no token, as a type is that can be copied
+  pub lends_shared : Copied 𝓛 R → (ℓ : Lifetime) (v : Val) → Is R d (v ∷ []) → ent 𝓤 (sem 𝓛 (Cell v)) (H.⇛ (sep 𝓤 (sem 𝓛 (Lends ℓ)) (sem 𝓛 Kept)))
   unfolding part_of
-  lends_shared ℓ v is =
+  lends_shared copied ℓ v is =
       qed 𝓛 (‵ (Cell v) ∷ []) ∵ updating ! $ use1 𝓛 (‵ (cell_at full_share R.mir (v ∷ []) b 0)) (𝓛.laws.at_raw full_share τ b 0 v) $
       owned ! R (Is R) (LL.makes T pl 𝓛) d (v ∷ []) is $ move ! (1 ∷ 0 ∷ []) $ fjoin ! $ fpack ! (List Val) (λ us. fsep (cell_at full_share R.mir us b 0) (R.own_val d us)) (v ∷ []) $
-      use1 𝓛 (later (some (λ (γ : GName). ‵ (Lends ℓ γ) ⊛ ‵ Kept))) (lends_shr 𝓛 R ℓ κ full_share d b 0) $ await ! tt $ pick ! (λ γ. at_once ! $
-      show ! (λ (γ' : GName). sep 𝓤 (sem 𝓛 (Lends ℓ γ')) (sem 𝓛 Kept)) γ $ done !)
+      use1 𝓛 (later (‵ (Lends ℓ) ⊛ ‵ Kept)) (lends_free 𝓛 R ℓ κ full_share d b 0 (copied.lends full_share d b 0)) $ await ! tt $ at_once ! $ done !
 
   pub shared_back : ent 𝓤 (sep 𝓤 (A.dead κ) (sem 𝓛 Kept)) (H.⇛ (sem 𝓛 (Cell (LL.val T L d))))
   unfolding part_of
