@@ -9,10 +9,10 @@ use seplogic.Ra.Ura.{Ura}
 use base.Fraction.{full_share}
 use mir.Syntax.{Ty, Lifetime}
 use mir.Val.{Val, vptr}
-use base.Logic.{ent, sep, ex}
-use base.Fml.{Lft, GName, Fml, fsep, fat, fdead, flent}
+use base.Logic.{ent, sep}
+use base.Fml.{Lft, Fml, fsep, fat, fdead, flent}
 use types.Logic.{Logic, sem}
-use types.Kit.{‵, ◌⊛◌, some, later, ◌$◌, ◌∵◌, !, qed, move, use1, pick, rewrite, fsplit, fjoin, fpick, fpack, await, updating, now as at_once, show, done}
+use types.Kit.{‵, ◌⊛◌, later, ◌$◌, ◌∵◌, !, qed, move, use1, rewrite, fsplit, fjoin, fpick, fpack, await, updating, now as at_once, done}
 use types.Tokens.{lent_back}
 use denote.RattleType.{RattleType}
 use denote.Laws.{Is, shows}

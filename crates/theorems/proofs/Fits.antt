@@ -45,7 +45,6 @@ use Rattle.report.specs.Command.{most_input, map_by, walk_by, range_of, places_o
 use Rattle.report.specs.Room.{row_most, head_most, room}
 use Rattle.report.specs.declared.command.Command.{Command}
 use Rattle.report.specs.declared.command.Command.TheVariants.{Report, Map, Walk as Walks, Usage}
-use Rattle.theorems.specs.Cases.{lines}
 use Rattle.theorems.specs.Reports.{RefusedBy, Opens, OfTable, total, Asked}
 use Rattle.theorems.specs.Rows.{source_of, line_at}
 use Rattle.theorems.specs.Statements.{sayings_of}

@@ -50,7 +50,7 @@ use Rattle.maps.specs.Walk.{Walk, ends, raw_piece, no_piece, walk_of, listed}
 use Rattle.probing.specs.Probe.{probe_of}
 use Rattle.puts.specs.Decimal.{digits_in, decimal_of}
 use Rattle.puts.specs.Put.{pasted, after}
-use Rattle.phrases.specs.Line.{line, name_in, access_word, refused_line}
+use Rattle.phrases.specs.Line.{name_in, access_word, refused_line}
 use Rattle.disk_lines.specs.Report.{probe_line, row_line, table_lines, report_of}
 use Rattle.map_lines.specs.Map.{mapping_line, map_line_of}
 use Rattle.walk_lines.specs.Walk.{walk_lines, walk_lines_of}
@@ -60,7 +60,7 @@ use Rattle.report.specs.declared.command.Command.{Command}
 use Rattle.report.specs.declared.command.Command.TheVariants.{Report}
 use Rattle.theorems.specs.Cases.{lines}
 use Rattle.theorems.specs.LineWords.{NameAt, Item, cid}
-use Rattle.theorems.specs.Values.{number, held_in, LastSaid}
+use Rattle.theorems.specs.Values.{held_in, LastSaid}
 use Rattle.theorems.specs.Counted.{walk_with, count_of}
 use Rattle.theorems.specs.Reports.{RefusedBy, Opens, each_spaced, total, name_bytes, Asked}
 use Rattle.theorems.specs.Tiling.{All, Rise, rows_of}

@@ -1,7 +1,6 @@
 -- A look leads to the rest of the search, to the row looked at, or, where no row is left, to none.
 use Rattle.std.proofs.Common.{◌≡◌, ◌∙◌, sym, ap, arith, true, false}
 use borrow.Author.Tests.{le-ltb}
-use Rattle.tables.specs.declared.table.Row.{Row}
 use Rattle.maps.specs.declared.halving.Next.{Next}
 use Rattle.maps.proofs.Halves.{after_look, middle_in, next_narrow, mid_row, look_on, look_hit, look_none, kept_on, kept_hit, kept_none}
 use Rattle.maps.specs.Map.{middle}

@@ -1,8 +1,6 @@
 -- `maps::halving::unpack` meets its contract. The code takes the number apart as the definition does. Each way is the definition's case.
 -- Assumes nothing.
 use Rattle.maps.proofs.Mappings.{unpacks}
-use Rattle.maps.proofs.halving.unpack.Reads as reads
-use Rattle.maps.proofs.halving.unpack.Lts as lts
 use Rattle.maps.proofs.halving.unpack.Goals as goal
 
 pub returns-then-low-gt0 : goal.returns-then-low-gt0

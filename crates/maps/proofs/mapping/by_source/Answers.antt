@@ -1,10 +1,6 @@
 -- `maps::mapping::by_source` meets its contract. One rule for each source. A file offset above 2^64 - 1 is told by a subtraction, which cannot wrap.
 -- Assumes nothing.
 use Rattle.maps.proofs.Mappings.{sources}
-use Rattle.maps.proofs.mapping.by_source.Reads as reads
-use Rattle.maps.proofs.mapping.by_source.Lts as lts
-use Rattle.maps.proofs.mapping.may_write.Reads as may-write-reads
-use Rattle.maps.proofs.mapping.refuse.Reads as refuse-reads
 use Rattle.maps.proofs.mapping.by_source.Goals as goal
 
 pub returns-then-within-start : goal.returns-then-within-start

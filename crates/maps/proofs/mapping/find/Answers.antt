@@ -1,8 +1,6 @@
 -- The row is found by the search of the rows that count, and kept where the search ended; what is told of it is told of where the search ends by the definition.
 use Rattle.std.proofs.Common.{ℕ, ◌≡◌, ◌≤◌, ◌-◌, ◌∙◌, ap, arith}
 use Rattle.lines.specs.Record.{most}
-use Rattle.tables.specs.Build.{no_row}
-use Rattle.tables.specs.declared.table.Row.{Row}
 use Rattle.maps.specs.Map.{halve}
 use Rattle.maps.specs.inside.Halving.{head_of, hit_of, end_of, kept_row, packed, span_of, unpack_of, upon}
 use Rattle.maps.proofs.Halves.{span_most, ran_of, left_row, end_back, end_held, end_found}

@@ -1,8 +1,6 @@
 -- `maps::mapping::span` meets its contract. The tests are the definition's. Where there are too many rows, or the offset is at or past the size, nothing is searched.
 -- Assumes nothing.
 use Rattle.maps.proofs.Mappings.{spans}
-use Rattle.maps.proofs.mapping.span.Reads as reads
-use Rattle.maps.proofs.mapping.span.Lts as lts
 use Rattle.maps.proofs.mapping.span.Goals as goal
 
 pub returns-then-offset : goal.returns-then-offset

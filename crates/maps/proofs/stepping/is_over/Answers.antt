@@ -1,8 +1,6 @@
 -- `maps::stepping::is_over` meets its contract. The two tests are the definition's, in its order. Each way is the definition's case.
 -- Assumes nothing.
 use Rattle.maps.proofs.Steps.{overs}
-use Rattle.maps.proofs.stepping.is_over.Reads as reads
-use Rattle.maps.proofs.stepping.is_over.Lts as lts
 use Rattle.maps.proofs.stepping.is_over.Goals as goal
 
 pub returns-then-left-eq0 : goal.returns-then-left-eq0

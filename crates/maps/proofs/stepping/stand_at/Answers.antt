@@ -1,10 +1,6 @@
 -- `maps::stepping::stand_at` meets its contract. Where nothing is over, the stand says by itself whether there is room. Each way is the definition's case.
 -- Assumes nothing.
 use Rattle.maps.proofs.Steps.{stands}
-use Rattle.maps.proofs.stepping.stand_at.Reads as reads
-use Rattle.maps.proofs.stepping.stand_at.Lts as lts
-use Rattle.maps.proofs.stepping.halt.Reads as halt-reads
-use Rattle.maps.proofs.stepping.is_over.Reads as is-over-reads
 use Rattle.maps.proofs.stepping.stand_at.Goals as goal
 
 pub returns-then-over : goal.returns-then-over

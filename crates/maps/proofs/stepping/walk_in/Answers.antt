@@ -1,8 +1,6 @@
-use Rattle.std.proofs.Common.{ℕ, List, ◌≡◌, ◌+◌, ◌<◌, ◌≤◌, ◌∙◌, sym, ap, length, arith}
+use Rattle.std.proofs.Common.{ℕ, ◌≡◌, ◌+◌, ◌<◌, ◌≤◌, ◌∙◌, sym, ap, length, arith}
 use Rattle.std.specs.Prelude.{min}
 use Rattle.lines.specs.Record.{most}
-use Rattle.tables.specs.declared.table.Piece.{Piece}
-use Rattle.maps.specs.declared.stepping.Mark.{Mark}
 use Rattle.maps.specs.declared.stepping.Stand.{Stand}
 use Rattle.maps.specs.Walk.{walk_of, walked, listed}
 use Rattle.maps.specs.inside.Halving.{head_of}

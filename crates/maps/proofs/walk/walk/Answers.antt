@@ -2,7 +2,7 @@
 use Rattle.std.proofs.Common.{ℕ, ◌≡◌, ◌∙◌, ap, length, arith}
 use Rattle.std.specs.Prelude.{min}
 use Rattle.lines.specs.Record.{most}
-use Rattle.maps.specs.Walk.{Walk, walk_of, walked, listed}
+use Rattle.maps.specs.Walk.{Walk, walked, listed}
 use Rattle.maps.proofs.Marks.{walk_room}
 use Rattle.maps.proofs.walk.walk.Goals as goal
 

@@ -1,4 +1,4 @@
-use Rattle.std.proofs.Common.{◌≡◌, ◌∙◌, ap, arith}
+use Rattle.std.proofs.Common.{◌≡◌, ◌∙◌, ap}
 use Rattle.tables.specs.Build.{build_of}
 use Rattle.tables.specs.Into.{build_into}
 use Rattle.tables.proofs.Endings.{Ending, begin_right, turn_right, end_right, all_is, nearer}

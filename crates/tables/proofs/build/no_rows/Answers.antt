@@ -1,9 +1,6 @@
 -- `tables::build::no_rows` meets its contract. So many times the same row is the definition's empty list, filled up.
 -- Assumes nothing.
 use Rattle.tables.proofs.Builds.{blanks}
-use Rattle.tables.proofs.build.no_rows.Reads as reads
-use Rattle.tables.proofs.build.no_rows.Lts as lts
-use Rattle.tables.proofs.build.no_row.Reads as no-row-reads
 use Rattle.tables.proofs.build.no_rows.Goals as goal
 
 pub returns : goal.returns

@@ -1,10 +1,6 @@
 -- `tables::build::open_implicit_extent` meets its contract. Size, sum and source are tested in the definition's order. The sum is tested by a subtraction, which cannot wrap.
 -- Assumes nothing.
 use Rattle.tables.proofs.Builds.{extents}
-use Rattle.tables.proofs.build.open_implicit_extent.Reads as reads
-use Rattle.tables.proofs.build.open_implicit_extent.Lts as lts
-use Rattle.tables.proofs.build.open_source.Reads as open-source-reads
-use Rattle.text.proofs.sector.Sectors.bytes.Reads as bytes-reads
 use Rattle.tables.proofs.build.open_implicit_extent.Goals as goal
 
 pub returns-then-in_disk_offset-length : goal.returns-then-in_disk_offset-length

@@ -1,6 +1,6 @@
-use Rattle.std.proofs.Common.{ℕ, ◌≡◌, ◌∙◌, sym, ap, refl}
+use Rattle.std.proofs.Common.{◌≡◌, ◌∙◌, sym, refl}
 use Rattle.maps.specs.Map.{map_of}
-use Rattle.timing.specs.inside.Tallies.{first_of, turn_of}
+use Rattle.timing.specs.inside.Tallies.{turn_of}
 use Rattle.timing.proofs.Turns.{first_going, turn_going, going_steady, sum_turn, sum_done, near}
 use Rattle.timing.proofs.map.many.Goals as goal
 

@@ -1,7 +1,7 @@
-use Rattle.std.proofs.Common.{ℕ, ◌≡◌, ◌<◌, ◌∙◌, sym, ap, refl}
+use Rattle.std.proofs.Common.{◌≡◌, ◌∙◌, sym, ap, refl}
 use borrow.Author.Tests.{ltb-true}
 use Rattle.timing.specs.Read.{size_of}
-use Rattle.timing.specs.inside.Rounds.{rounds_of, round_of}
+use Rattle.timing.specs.inside.Rounds.{round_of}
 use Rattle.timing.proofs.Turns.{near}
 use Rattle.timing.proofs.Answers.{lent_size, round_going, sum_round, sum_over}
 use Rattle.timing.proofs.read.reads.Goals as goal

@@ -1,7 +1,7 @@
-use Rattle.std.proofs.Common.{ℕ, ◌≡◌, ◌∙◌, sym, ap, refl, get_or}
+use Rattle.std.proofs.Common.{◌≡◌, ◌∙◌, sym, refl, get_or}
 use Rattle.maps.specs.Walk.{no_piece}
-use Rattle.timing.specs.inside.Tours.{adding_of, added_of}
-use Rattle.timing.proofs.Tours.{adds_first, rest_first, adds_short, adds_next, inside, rest_next, rest_done, nearer}
+use Rattle.timing.specs.inside.Tours.{added_of}
+use Rattle.timing.proofs.Tours.{adds_first, rest_first, adds_short, adds_next, rest_next, rest_done, nearer}
 use Rattle.timing.proofs.walk.add_pieces.Goals as goal
 
 pub loop-k-init : goal.loop-k-init

@@ -2,8 +2,6 @@
 -- Nothing else is there to show.
 -- Assumes nothing.
 use Rattle.timing.proofs.Tours.{blanks}
-use Rattle.timing.proofs.walk.blanks.Reads as reads
-use Rattle.timing.proofs.walk.blanks.Lts as lts
 use Rattle.timing.proofs.walk.blanks.Goals as goal
 
 pub returns : goal.returns

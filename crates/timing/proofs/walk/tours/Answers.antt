@@ -1,10 +1,9 @@
-use Rattle.std.proofs.Common.{ℕ, List, ◌≡◌, ◌≤◌, ◌∙◌, sym, ap, refl, length}
+use Rattle.std.proofs.Common.{◌≡◌, ◌∙◌, sym, ap, length}
 use Rattle.lines.specs.Record.{most}
-use Rattle.tables.specs.declared.table.Piece.{Piece}
-use Rattle.maps.specs.Walk.{walk_of, listed}
+use Rattle.maps.specs.Walk.{walk_of}
 use Rattle.timing.specs.Walk.{pieces_in}
-use Rattle.timing.specs.inside.Tours.{set_out, toured_of}
-use Rattle.timing.proofs.Tours.{first_going, turn_going, going_ready, sum_from, sum_turn, sum_done, written_fits, tour_adds}
+use Rattle.timing.specs.inside.Tours.{toured_of}
+use Rattle.timing.proofs.Tours.{turn_going, going_ready, sum_turn, sum_done, written_fits, tour_adds}
 use Rattle.timing.proofs.walk.tours.Goals as goal
 
 pub add_pieces-sum-requires : goal.add_pieces-sum-requires
