@@ -57,7 +57,7 @@ fn answered(read: Verdict, built: Verdict, desc: VmdkDesc, table: Table) -> Open
     }
 }
 
-// Reads a descriptor and builds its table. By hand.
+// Reads a descriptor and builds its table.
 pub fn opened(d: &[u8]) -> Opening
     ensures { result ≡ opening_of d.now }
 {
@@ -68,7 +68,7 @@ pub fn opened(d: &[u8]) -> Opening
     answered(read, built, record.desc, table)
 }
 
-// What lies at an offset of the disk, for at most the length asked. By hand.
+// What lies at an offset of the disk, for at most the length asked.
 pub fn mapped(t: Table, offset: u64, max_length: u64) -> Mapping
     ensures { result ≡ map_of t offset max_length }
 {
@@ -90,7 +90,7 @@ fn list_of(walked: Walked, pieces: [Piece; MOST]) -> Listing
     Listing { walked, pieces }
 }
 
-// The walk from a position on, for at most a length, with room for so many pieces, at most as many as a table has rows. By hand.
+// The walk from a position on, for at most a length, with room for so many pieces, at most as many as a table has rows.
 pub fn listed(t: Table, places: usize, at: u64, length: u64) -> Listing
     ensures { result ≡ listing_of t places at length }
 {

@@ -14,7 +14,7 @@ pub struct Read {
 }
 
 // Read and parse the VMDK descriptor by reading in lines until we find the end, into a record in whatever state it was. A refusal leaves start
-// values and no extent counted; in the first places what was stored before it, and every other place as it was. By hand.
+// values and no extent counted; in the first places what was stored before it, and every other place as it was.
 pub fn parse_descriptor_file(d: &[u8], into: &mut Record) -> Verdict
     ensures { (result ≡ (read_of d.now).verdict) × (into.new ≡ read_into d.now into.old) }
 {

@@ -1,4 +1,4 @@
-// Reading from one extent to the next. What decides has plain parameters; the two functions that store have a `&mut Record`, and are proved by hand.
+// Reading from one extent to the next. What decides has plain parameters; the two functions that store have a `&mut Record`.
 ghost use Rattle.std.specs.Prelude.{◌≡◌, ◌<◌, length};
 ghost use Rattle.lines.specs.Record.{most, refusal};
 ghost use Rattle.descriptor.specs.Read.{set_of};
@@ -274,7 +274,7 @@ pub(crate) fn verdict_of(m: Mark) -> Verdict
     m.verdict
 }
 
-// Stores one extent. By hand.
+// Stores one extent.
 pub(crate) fn put_extent(into: &mut Record, at: usize, x: ReadExtent)
     requires { at < most }
     ensures stored { into.new ≡ stored into.old at x }
@@ -283,7 +283,7 @@ pub(crate) fn put_extent(into: &mut Record, at: usize, x: ReadExtent)
     into.extents[at] = x;
 }
 
-// Stores the values and the count. By hand.
+// Stores the values and the count.
 pub(crate) fn put_head(into: &mut Record, desc: VmdkDesc, count: usize)
     ensures { into.new ≡ headed into.old desc count }
 {

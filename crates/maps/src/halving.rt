@@ -1,4 +1,4 @@
-// The row search, over a table that is lent. Each function with a `&Table` is thin, and proved by hand; what decides has plain parameters.
+// The row search, over a table that is lent. Each function with a `&Table` is thin; what decides has plain parameters.
 ghost use Rattle.std.specs.Prelude.{◌≡◌, ◌+◌, ◌-◌, ◌<◌, ◌≤◌, ◌^◌, get_or};
 ghost use Rattle.lines.specs.Record.{most};
 ghost use Rattle.tables.specs.Build.{no_row};
@@ -36,7 +36,7 @@ pub(crate) struct Next {
     pub code: usize,
 }
 
-// One row, for a look at it. By hand.
+// One row, for a look at it.
 fn row_at(t: &Table, i: usize) -> Row
     requires { i < most }
     ensures { result ≡ get_or t.now.rows i no_row }
@@ -44,12 +44,13 @@ fn row_at(t: &Table, i: usize) -> Row
     t.rows[i]
 }
 
-// The numbers beside the rows. By hand.
+// The numbers beside the rows.
 pub(crate) fn head(t: &Table) -> Heading
     ensures heading { result ≡ head_of t.now }
     ensures size_fits { t.now.size.0 < 2 ^ 64 }
 {
     let size = t.size;
+    // a number that is read is of 64 bits, which the walk rests on
     let _fits = size.offset();
     Heading {
         size,
@@ -121,7 +122,7 @@ fn decide(row: Row, lo: usize, mid: usize, hi: usize, offset: u64, looked: usize
 }
 
 // The row that holds the offset, among those from lo up to hi; it calls itself on the half that is left. The row that it ends at is left in `into`: it was read
-// at the last look, and is not read again. By hand.
+// at the last look, and is not read again.
 pub(crate) fn search(
     t: &Table,
     lo: usize,

@@ -61,7 +61,7 @@ fn as_found(heading: Heading, hit: Hit, row: Row, offset: u64) -> Found
     }
 }
 
-// The search of a table for an offset of the disk. By hand.
+// The search of a table for an offset of the disk.
 pub(crate) fn find(t: &Table, offset: u64) -> Found
     ensures { result ≡ found_of t.now offset }
 {
@@ -167,7 +167,7 @@ pub(crate) fn answer(f: Found, offset: u64, max_length: u64) -> Mapping
     end_of_file(hit.looked)
 }
 
-// What lies at an offset of the disk, for at most the length asked. By hand.
+// What lies at an offset of the disk, for at most the length asked.
 pub fn get_mapping(t: &Table, offset: u64, max_length: u64) -> Mapping
     ensures { result ≡ map_of t.now offset max_length }
 {

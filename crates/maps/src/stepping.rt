@@ -1,4 +1,4 @@
-// The walk's steps. Each function with a reference is thin, and proved by hand; what decides has plain parameters.
+// The walk's steps. Each function with a reference is thin; what decides has plain parameters.
 ghost use Rattle.std.specs.Prelude.{◌≡◌, ◌+◌, ◌<◌, ◌≤◌, ◌^◌, min, length as len, set};
 ghost use Rattle.lines.specs.Record.{most};
 ghost use Rattle.maps.specs.Walk.{zero_piece, raw_piece, walk_of, walked, listed};
@@ -37,7 +37,7 @@ pub(crate) struct Mark {
     pub stop: Stop,
 }
 
-// Stores one piece. By hand.
+// Stores one piece.
 pub(crate) fn put_piece(list: &mut [Piece], at: usize, p: Piece)
     requires { at < len list.old }
     ensures { list.new ≡ set list.old at p }
@@ -225,7 +225,7 @@ fn at_end(s: Stand) -> Mark
     no_more(stop, s, s.looked)
 }
 
-// The step: where the walk goes on, map the position with all that is left. By hand.
+// The step: where the walk goes on, map the position with all that is left.
 fn map_at(t: &Table, s: Stand) -> Mark
     requires { Ready t.now s }
     ensures { result ≡ map_at t.now s }
@@ -251,7 +251,7 @@ fn finish(m: Mark) -> Walked
     }
 }
 
-// The walk, with at most so many of the list's places. By hand.
+// The walk, with at most so many of the list's places.
 pub fn walk_in(t: &Table, list: &mut [Piece], places: usize, at: u64, length: u64) -> Walked
     ensures { (result ≡ walked (walk_of t.now (min places (len list.old)) at length)) × (list.new ≡ listed (walk_of t.now (min places (len list.old)) at length) list.old) }
 {

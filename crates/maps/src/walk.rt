@@ -7,7 +7,7 @@ use crate::stepping;
 use lines::record::MOST;
 use tables::table::{Piece, Table, Walked};
 
-// Fills the list from its start with the pieces of the disk from a position on, for at most a length. By hand.
+// Fills the list from its start with the pieces of the disk from a position on, for at most a length.
 pub fn walk(t: &Table, list: &mut [Piece], at: u64, length: u64) -> Walked
     ensures { (result ≡ walked (walk_of t.now (len list.old) at length)) × (list.new ≡ listed (walk_of t.now (len list.old) at length) list.old) }
 {

@@ -1,4 +1,4 @@
-// Building the extent table: rows follow each other from 0, one for each extent. The record and the table are lent: each function with a reference is thin, and proved by hand; what decides has plain parameters.
+// Building the extent table: rows follow each other from 0, one for each extent. The record and the table are lent: each function with a reference is thin; what decides has plain parameters.
 ghost use Rattle.std.specs.Prelude.{◌≡◌, [], ◌<◌, length};
 ghost use Rattle.text.specs.Sector.{bytes_upto};
 ghost use Rattle.lines.specs.Record.{most, filled};
@@ -222,7 +222,7 @@ fn verdict_of(s: Step) -> Verdict
     s.verdict
 }
 
-// The record's count and extent i. By hand.
+// The record's count and extent i.
 pub(crate) fn seen_at(record: &Record, i: usize) -> Seen
     requires { i < most }
     ensures seen { result ≡ seen_of «record».now i }
@@ -234,7 +234,7 @@ pub(crate) fn seen_at(record: &Record, i: usize) -> Seen
     }
 }
 
-// Stores one row. By hand.
+// Stores one row.
 pub(crate) fn put_row(into: &mut Table, at: usize, row: Row)
     requires { at < most }
     ensures stored { into.new ≡ stored_row into.old at row }
@@ -243,7 +243,7 @@ pub(crate) fn put_row(into: &mut Table, at: usize, row: Row)
     into.rows[at] = row;
 }
 
-// Stores the size and the count. By hand.
+// Stores the size and the count.
 pub(crate) fn put_size(into: &mut Table, size: Bytes, count: usize)
     ensures { into.new ≡ sized into.old size count }
 {
@@ -251,7 +251,7 @@ pub(crate) fn put_size(into: &mut Table, size: Bytes, count: usize)
     into.count = count;
 }
 
-// The extent table of a record, also of a hand-made one, in a table that is lent: the verdict is answered. By hand.
+// The extent table of a record, also of a hand-made one, in a table that is lent: the verdict is answered.
 pub fn build(record: &Record, into: &mut Table) -> Verdict
     ensures { (result ≡ (build_of «record».now).verdict) × (into.new ≡ build_into «record».now into.old) }
 {

@@ -86,7 +86,7 @@ fn sum_of(k: Tally) -> u64
     k.sum
 }
 
-// The sum over so many mappings of a table that is lent. By hand.
+// The sum over so many mappings of a table that is lent.
 fn many(t: &Table, ascending: u64, count: u64) -> u64
     ensures { result ≡ map_sum (is_ascending ascending) count t.now 0 0 }
 {
@@ -98,7 +98,7 @@ fn many(t: &Table, ascending: u64, count: u64) -> u64
     sum_of(k)
 }
 
-// The sum over so many mappings of the table of a descriptor. By hand.
+// The sum over so many mappings of the table of a descriptor.
 pub(crate) fn map_in(d: &[u8], ascending: u64, count: u64) -> u64
     ensures { result ≡ map_sum (is_ascending ascending) count (table_in d.now) 0 0 }
 {

@@ -55,7 +55,7 @@ fn after(k: Rounds, read: Verdict, built: Verdict, size: Bytes) -> Rounds
     }
 }
 
-// The sum over so many rounds. By hand.
+// The sum over so many rounds.
 pub(crate) fn reads(d: &[u8], count: u64) -> u64
     ensures { result ≡ reads_sum count (size_of d.now) 0 }
 {

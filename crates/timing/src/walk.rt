@@ -74,7 +74,7 @@ fn added_sum(k: Adding) -> u64
     k.sum
 }
 
-// The sum with a list's first pieces in it. By hand.
+// The sum with a list's first pieces in it.
 pub(crate) fn add_pieces(list: &mut [Piece], count: usize, sum: u64) -> u64
     requires { count ≤ length list.old }
     ensures { (result ≡ pieces_in sum (take count list.old)) × (list.new ≡ list.old) }
@@ -139,7 +139,7 @@ fn tour_sum(k: Tour) -> u64
     k.sum
 }
 
-// The sum over so many walks of a table that is lent. By hand.
+// The sum over so many walks of a table that is lent.
 fn tours(t: &Table, window: u64, count: u64) -> u64
     ensures { result ≡ walk_sum count t.now window 0 0 }
 {
@@ -153,7 +153,7 @@ fn tours(t: &Table, window: u64, count: u64) -> u64
     tour_sum(k)
 }
 
-// The sum over so many walks of the table of a descriptor. By hand.
+// The sum over so many walks of the table of a descriptor.
 pub(crate) fn walk_in(d: &[u8], window: u64, count: u64) -> u64
     ensures { result ≡ walk_sum count (table_in d.now) window 0 0 }
 {
