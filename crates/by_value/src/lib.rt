@@ -15,7 +15,7 @@ use tables::build;
 use tables::table::{Mapping, Piece, Table, Walked};
 
 // A descriptor that was read and built: both verdicts, its values and its table, which is empty where either is refused.
-#[derive(Drop)]
+#[derive(Clone, Copy)]
 pub struct Opening {
     pub read: Verdict,
     pub built: Verdict,
@@ -24,7 +24,7 @@ pub struct Opening {
 }
 
 // What a walk did, and the pieces that it wrote; the places beyond their count are zeros.
-#[derive(Drop)]
+#[derive(Clone, Copy)]
 pub struct Listing {
     pub walked: Walked,
     pub pieces: [Piece; MOST],

@@ -7,7 +7,7 @@ use crate::stepping;
 use lines::record::{Record, Verdict};
 
 // What reading answers: a record, which is empty where the descriptor is refused.
-#[derive(Drop)]
+#[derive(Clone, Copy)]
 pub struct Read {
     pub verdict: Verdict,
     pub descriptor: Record,

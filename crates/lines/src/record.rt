@@ -67,7 +67,7 @@ pub struct VmdkDesc {
 pub const MOST: usize = 1024;
 
 // A descriptor that was read: its values, the number of its extents, and the extents. Places past the count are no access and zeros, of line 0, in a record that was empty before it was read into.
-#[derive(Drop)]
+#[derive(Clone, Copy)]
 pub struct Record {
     pub desc: VmdkDesc,
     pub count: usize,

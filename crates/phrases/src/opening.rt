@@ -7,7 +7,7 @@ use lines::record::Verdict;
 use tables::table::Table;
 
 // A descriptor that was read and built: its version and its table, or why it is refused.
-#[derive(Drop)]
+#[derive(Clone, Copy)]
 pub struct Opened {
     pub verdict: Verdict,
     pub version: u32,

@@ -23,7 +23,7 @@ pub struct Row {
 }
 
 // The disk's size and the rows. Places past the count are no access and zeros, of line 0, in a table that was empty before it was built.
-#[derive(Drop)]
+#[derive(Clone, Copy)]
 pub struct Table {
     pub size: Bytes,
     pub count: usize,
@@ -31,7 +31,7 @@ pub struct Table {
 }
 
 // A table that was built, or an empty one with the refusal.
-#[derive(Drop)]
+#[derive(Clone, Copy)]
 pub struct Built {
     pub verdict: Verdict,
     pub table: Table,
