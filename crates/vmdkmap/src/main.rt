@@ -120,12 +120,7 @@ fn read_input(from: &mut impl Read, input: &mut [u8]) -> io::Result<usize>
 }
 
 // Writes the answer to an input, by way of a buffer.
-fn respond(
-    rt: &(impl Print + Eprint),
-    d: &[u8],
-    asked: Command,
-    out: &mut [u8],
-) -> io::Result<()> {
+fn respond(rt: &(impl Print + Eprint), d: &[u8], asked: Command, out: &mut [u8]) -> io::Result<()> {
     let n = answer(d, asked, out);
     if out.len() < n {
         return rt.eprintln("vmdkmap: the answer is too long");
