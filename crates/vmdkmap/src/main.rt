@@ -123,7 +123,8 @@ fn read_input(from: &mut impl Read, input: &mut [u8]) -> io::Result<usize>
 fn respond(rt: &(impl Print + Eprint), d: &[u8], asked: Command, out: &mut [u8]) -> io::Result<()> {
     let n = answer(d, asked, out);
     if out.len() < n {
-        return rt.eprintln("vmdkmap: the answer is too long");
+        let _ = rt.eprintln("vmdkmap: the answer is too long");
+        return Ok(());
     }
     rt.write_all(&out[..n])
 }
