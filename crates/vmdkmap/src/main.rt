@@ -14,7 +14,7 @@ use std::io;
 use std::io::{ErrorKind, Read};
 use std::process::ExitCode;
 
-// The longest argument that is looked at. No command has a longer one.
+// The most bytes of an argument that is looked at.
 const LONGEST: usize = 4096;
 
 // Each mode, with an example.
@@ -27,7 +27,7 @@ as in: vmdkmap < reel.vmdk
        vmdkmap walk 0 4096 1024 < reel.vmdk
 ";
 
-// How many arguments there are, without the program's own name.
+// How many arguments there are, without the program's own name. An empty buffer tells one that is there from one that is missing.
 fn arguments(rt: &impl Env) -> usize {
     let mut n = 0;
     for i in 1..usize::MAX {
@@ -99,7 +99,7 @@ fn fail(rt: &(impl Eprint + Alloc), what: &str, error: io::Error) -> ExitCode {
     ExitCode::FAILURE
 }
 
-// Whether the input ends after n bytes.
+// Whether the input ends after n bytes. One of more than 65,536 is answered without its end.
 fn is_whole(from: &mut impl Read, n: usize) -> io::Result<bool> {
     if 65536 < n {
         return Ok(true);
@@ -114,6 +114,7 @@ fn read_input(from: &mut impl Read, input: &mut [u8]) -> io::Result<usize>
 {
     let n = read_full(from, input)?;
     if !is_whole(from, n)? {
+        // As at a terminal: the input ended, and went on.
         return Err(io::Error::new(ErrorKind::InvalidInput, "Invalid argument"));
     }
     Ok(n)
