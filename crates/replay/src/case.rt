@@ -4,6 +4,7 @@ ghost use Rattle.std.specs.Prelude.{◌<◌};
 use crate::{line, out};
 use by_value::{Listing, Opening};
 use lines::record::{Verdict, VmdkDesc};
+use std::io;
 use tables::table::Table;
 
 // A byte as a number.
@@ -54,77 +55,82 @@ fn word(b: &[u8], at: usize, more: usize) -> u64 {
 }
 
 // The values of a descriptor and its table, which are three lines, and the rows.
-fn head(c: &[u8], v: VmdkDesc, t: Table) {
+fn head(rt: &impl Print, c: &[u8], v: VmdkDesc, t: &Table) -> io::Result<()> {
     let n = std::num::wrapping_add_usize(t.count, 3);
-    let mut i = 0;
-    while i < n {
-        out::line(c, line::head(v, t, i));
-        i += 1;
+    for i in 0..n {
+        out::line(rt, c, line::head(v, t, i))?;
     }
+    Ok(())
 }
 
 // The pieces of a walk and its end.
-fn walk(c: &[u8], t: Table, l: Listing) {
+fn walk(rt: &impl Print, c: &[u8], t: &Table, l: &Listing) -> io::Result<()> {
     let n = std::num::wrapping_add_usize(l.walked.count, 1);
-    let mut i = 0;
-    while i < n {
-        out::line(c, line::walk(t, l, i));
-        i += 1;
+    for i in 0..n {
+        out::line(rt, c, line::walk(t, l, i))?;
     }
+    Ok(())
 }
 
 // The answer to a query: a map where the first number is 0, a walk otherwise.
-fn reply(c: &[u8], t: Table, what: u64, offset: u64, length: u64, places: u64) {
+fn reply(
+    rt: &impl Print,
+    c: &[u8],
+    t: &Table,
+    what: u64,
+    offset: u64,
+    length: u64,
+    places: u64,
+) -> io::Result<()> {
     if what == 0 {
-        let m = by_value::mapped(t, offset, length);
-        out::line(c, line::mapping(t, m));
-        return;
+        let m = by_value::mapped(*t, offset, length);
+        return out::line(rt, c, line::mapping(t, m));
     }
-    let l = by_value::listed(t, places as usize, offset, length);
-    walk(c, t, l);
+    let l = by_value::listed(*t, places as usize, offset, length);
+    walk(rt, c, t, &l)
 }
 
 // The answers to the queries, one after the other; their number is at a place, and they stand after it.
-fn queries(c: &[u8], t: Table, at: usize) {
+fn queries(rt: &impl Print, c: &[u8], t: &Table, at: usize) -> io::Result<()> {
     let n = byte(c, at);
     let mut from = std::num::wrapping_add_usize(at, 1);
-    let mut i = 0;
-    while i < n {
+    for _ in 0..n {
         reply(
+            rt,
             c,
             t,
             byte(c, from),
             word(c, from, 1),
             word(c, from, 9),
             quarter(c, from, 17),
-        );
+        )?;
         from = std::num::wrapping_add_usize(from, 19);
-        i += 1;
     }
+    Ok(())
 }
 
 // The answers of case k, whose first n bytes were read.
-fn built(k: u64, c: &[u8], n: usize, probed: bool, o: Opening) {
+fn built(rt: &impl Print, k: u64, c: &[u8], n: usize, probed: bool, o: Opening) -> io::Result<()> {
     let v = o.built;
-    out::line(c, line::case(k, probed, v));
+    out::line(rt, c, line::case(k, probed, v))?;
     match v {
-        Verdict::Refused(_) => {}
+        Verdict::Refused(_) => Ok(()),
         Verdict::Sound => {
             let t = o.table;
-            head(c, o.desc, t);
-            queries(c, t, n);
+            head(rt, c, o.desc, &t)?;
+            queries(rt, c, &t, n)
         }
     }
 }
 
 // The answers of case k, whose descriptor is its first n bytes.
-pub(crate) fn answer(k: u64, c: &[u8], n: usize) {
+pub(crate) fn answer(rt: &impl Print, k: u64, c: &[u8], n: usize) -> io::Result<()> {
     let d = out::front(c, n);
     let probed = probing::probe::probe(d);
     let o = by_value::opened(d);
     let v = o.read;
     match v {
-        Verdict::Refused(_) => out::line(c, line::case(k, probed, v)),
-        Verdict::Sound => built(k, c, n, probed, o),
+        Verdict::Refused(_) => out::line(rt, c, line::case(k, probed, v)),
+        Verdict::Sound => built(rt, k, c, n, probed, o),
     }
 }

@@ -4,7 +4,7 @@ use lines::record::{MOST, Text, Verdict, VmdkAccessType, VmdkDesc};
 use tables::table::{Mapping, Piece, PieceSource, ShallowMapping, Source, Stop, Table, Walked};
 
 // A line: its letter, its numbers, and a text of the descriptor.
-#[derive(Drop)]
+#[derive(Clone, Copy)]
 pub(crate) struct Line {
     pub letter: u8,
     pub numbers: [u64; 5],
@@ -50,7 +50,7 @@ pub(crate) fn case(k: u64, probed: bool, v: Verdict) -> Line {
 }
 
 // Row i of a table, if it has so many places, with its line.
-fn row(t: Table, i: usize) -> Line {
+fn row(t: &Table, i: usize) -> Line {
     let r = t.rows[i % MOST];
     let n = r.line as u64;
     let s = r.source;
@@ -66,7 +66,7 @@ fn row(t: Table, i: usize) -> Line {
 }
 
 // Line i of an image: its values, which are three lines, then its rows.
-pub(crate) fn head(v: VmdkDesc, t: Table, i: usize) -> Line {
+pub(crate) fn head(v: VmdkDesc, t: &Table, i: usize) -> Line {
     match i {
         0 => {
             let text = v.cid;
@@ -94,7 +94,7 @@ pub(crate) fn head(v: VmdkDesc, t: Table, i: usize) -> Line {
 }
 
 // What lies at an offset; the text is the file name of its row.
-pub(crate) fn mapping(t: Table, m: Mapping) -> Line {
+pub(crate) fn mapping(t: &Table, m: Mapping) -> Line {
     let looked = m.looked as u64;
     let s = m.mapping;
     match s {
@@ -110,7 +110,7 @@ pub(crate) fn mapping(t: Table, m: Mapping) -> Line {
 }
 
 // A piece of a walk; the text is the file name of its row.
-fn piece(t: Table, x: Piece) -> Line {
+fn piece(t: &Table, x: Piece) -> Line {
     let l = row(t, x.row);
     let text = l.text;
     let s = x.source;
@@ -142,7 +142,7 @@ fn end(w: Walked) -> Line {
 }
 
 // Line i of a walk: a piece, or after the last one the end.
-pub(crate) fn walk(t: Table, l: Listing, i: usize) -> Line {
+pub(crate) fn walk(t: &Table, l: &Listing, i: usize) -> Line {
     let w = l.walked;
     if w.count <= i {
         return end(w);

@@ -7,7 +7,7 @@ use text::utf8::Char;
 use text::words::{Trimmed, Word};
 
 // An answer: which of its cases, and the values of that case.
-#[derive(Drop)]
+#[derive(Clone, Copy)]
 pub(crate) struct Answer {
     pub tag: u64,
     pub a: u64,

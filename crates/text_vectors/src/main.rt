@@ -7,6 +7,8 @@
 mod answers;
 
 use answers::Answer;
+use input::read_full;
+use std::io;
 use text::number::Num;
 use text::words::Word;
 
@@ -26,6 +28,7 @@ struct Ran {
 }
 
 // The number that is the next word from a place, or 0.
+#[tactic(auto, using(text::proofs::Bounds::cuts))]
 fn read_field(d: &[u8], from: usize) -> Field {
     let w = text::words::next_word(d, from);
     match w {
@@ -44,42 +47,41 @@ fn read_field(d: &[u8], from: usize) -> Field {
 }
 
 // Writes a space and a number.
-fn print_field(n: u64) {
-    io::write_all(1, b" ");
-    io::print_decimal(1, n);
+fn print_field(rt: &impl Print, n: u64) -> io::Result<()> {
+    print!(rt; " {n}")
 }
 
 // Writes a vector's kind and the answer that was given.
-fn print_answer(kind: &[u8], got: Answer) {
-    io::write_all(1, kind);
-    print_field(got.tag);
-    print_field(got.a);
-    print_field(got.b);
-    io::write_all(1, b"\n");
+fn print_answer(rt: &impl Print, kind: &[u8], got: Answer) -> io::Result<()> {
+    rt.write_all(kind)?;
+    print_field(rt, got.tag)?;
+    print_field(rt, got.a)?;
+    print_field(rt, got.b)?;
+    println!(rt)
 }
 
 // Answers a vector's text, writes the answer, and says whether it is not the one expected.
-fn fails(kind: &[u8], t: &[u8], expected: Answer) -> bool {
+fn fails(rt: &impl Print, kind: &[u8], t: &[u8], expected: Answer) -> io::Result<bool> {
     let got = answers::ask(kind, t);
-    print_answer(kind, got);
+    print_answer(rt, kind, got)?;
     if got.tag != expected.tag {
-        return true;
+        return Ok(true);
     }
     if got.a != expected.a {
-        return true;
+        return Ok(true);
     }
-    got.b != expected.b
+    Ok(got.b != expected.b)
 }
 
 // Runs the vector that starts at a place, if there is a whole one.
-fn run(d: &[u8], at: usize) -> Ran {
+fn run(rt: &impl Print, d: &[u8], at: usize) -> io::Result<Ran> {
     let none = Ran {
         next: at,
         found: false,
         failed: false,
     };
     if d.len() <= at {
-        return none;
+        return Ok(none);
     }
     let length = read_field(d, at + 1);
     let tag = read_field(d, length.end);
@@ -87,12 +89,12 @@ fn run(d: &[u8], at: usize) -> Ran {
     let b = read_field(d, a.end);
     let end = b.end;
     if d.len() <= end {
-        return none;
+        return Ok(none);
     }
     let start = end + 1;
     let n = length.value as usize;
     if d.len() - start <= n {
-        return none;
+        return Ok(none);
     }
     let stop = start + n;
     let expected = Answer {
@@ -101,20 +103,20 @@ fn run(d: &[u8], at: usize) -> Ran {
         b: b.value,
     };
     let kind_end = at + 1;
-    Ran {
+    Ok(Ran {
         next: stop + 1,
         found: true,
-        failed: fails(&d[at..kind_end], &d[start..stop], expected),
-    }
+        failed: fails(rt, &d[at..kind_end], &d[start..stop], expected)?,
+    })
 }
 
 // Runs vector after vector, up to a number that no input reaches.
-fn run_all(d: &[u8]) {
+fn run_all(rt: &impl Print, d: &[u8]) -> io::Result<()> {
     let mut at = 0;
     let mut count: u64 = 0;
     let mut failed: u64 = 0;
     while count < 65536 {
-        let r = run(d, at);
+        let r = run(rt, d, at)?;
         if !r.found {
             break;
         }
@@ -124,15 +126,13 @@ fn run_all(d: &[u8]) {
         }
         at = r.next;
     }
-    io::write_all(1, b"run");
-    print_field(count);
-    io::write_all(1, b"\nfailed");
-    print_field(failed);
-    io::write_all(1, b"\n");
+    println!(rt; "run {count}")?;
+    println!(rt; "failed {failed}")
 }
 
-fn main() {
-    let mut space = io::large_buffer();
-    let n = io::read_full(0, &mut space);
-    run_all(&space[..n]);
+// Reads the vectors and runs them.
+fn main(rt: HostRuntime) -> io::Result<()> {
+    let mut space = [0; 65536];
+    let n = read_full(&mut rt.reader(), &mut space)?;
+    run_all(&rt, &space[..n])
 }

@@ -3,47 +3,73 @@
 // All answers are `report`'s, which are proved. Here bytes are read and written.
 #![tactic(auto)]
 
+ghost use Rattle.std.specs.Prelude.{◌≤◌, length, IfSome};
+ghost use Rattle.std.specs.Io.{ReadsAtMost};
+
+use input::read_full;
 use report::answer::{answer, answer_space, input_space};
 use report::command::{Command, read_command};
+use std::env::{Env, FillError};
+use std::io;
+use std::io::{ErrorKind, Read};
+use std::process::ExitCode;
 
-// How many arguments there are, without the program's own name.
-fn arguments() -> usize {
-    let n = os::arg_count();
-    if n == 0 {
-        return 0;
+// The most bytes of an argument that is looked at.
+const LONGEST: usize = 4096;
+
+// Each mode, with an example.
+const USAGE: &str = "\
+usage: vmdkmap [report] < DESCRIPTOR
+       vmdkmap map OFFSET LENGTH < DESCRIPTOR
+       vmdkmap walk OFFSET LENGTH PLACES < DESCRIPTOR    (PLACES is 0 to 1024)
+as in: vmdkmap < reel.vmdk
+       vmdkmap map 2047 100 < reel.vmdk
+       vmdkmap walk 0 4096 1024 < reel.vmdk
+";
+
+// How many arguments there are, without the program's own name. An empty buffer tells one that is there from one that is missing.
+fn arguments(rt: &impl Env) -> usize {
+    let mut n = 0;
+    for i in 1..usize::MAX {
+        match rt.arg(i, &mut []) {
+            Err(FillError::NotPresent) => break,
+            _ => n = i,
+        }
     }
-    n - 1
+    n
 }
 
-// Whether the argument that was read last is longer than its buffer.
-fn is_cut() -> bool {
-    os::errno() == libc::ENAMETOOLONG
+// Puts argument i in a buffer; its length, which is 0 where it is missing, or none where the buffer is too short for it.
+fn argument(rt: &impl Env, i: usize, buf: &mut [u8]) -> Option<usize>
+    ensures { IfSome result (λ n. n ≤ length buf.new) }
+{
+    match rt.arg(i, buf) {
+        Ok(n) => Some(n),
+        Err(FillError::NotPresent) => Some(0),
+        Err(FillError::TooLong) => None,
+    }
 }
 
 // What the arguments ask. One of more than 4,096 bytes is none that is known.
-fn asked() -> Command {
-    let mut mode = io::buffer();
-    let mode_length = os::arg(1, &mut mode);
-    if is_cut() {
+fn asked(rt: &impl Env) -> Command {
+    let mut mode = [0; LONGEST];
+    let Some(mode_length) = argument(rt, 1, &mut mode) else {
         return Command::Usage;
-    }
-    let mut a = io::buffer();
-    let a_length = os::arg(2, &mut a);
-    if is_cut() {
+    };
+    let mut a = [0; LONGEST];
+    let Some(a_length) = argument(rt, 2, &mut a) else {
         return Command::Usage;
-    }
-    let mut b = io::buffer();
-    let b_length = os::arg(3, &mut b);
-    if is_cut() {
+    };
+    let mut b = [0; LONGEST];
+    let Some(b_length) = argument(rt, 3, &mut b) else {
         return Command::Usage;
-    }
-    let mut c = io::buffer();
-    let c_length = os::arg(4, &mut c);
-    if is_cut() {
+    };
+    let mut c = [0; LONGEST];
+    let Some(c_length) = argument(rt, 4, &mut c) else {
         return Command::Usage;
-    }
+    };
     read_command(
-        arguments(),
+        arguments(rt),
         &mode[..mode_length],
         &a[..a_length],
         &b[..b_length],
@@ -52,58 +78,82 @@ fn asked() -> Command {
 }
 
 // Writes each mode, with an example, on standard error.
-fn usage() {
-    io::write_all(2, b"usage: vmdkmap [report] < DESCRIPTOR\n");
-    io::write_all(2, b"       vmdkmap map OFFSET LENGTH < DESCRIPTOR\n");
-    io::write_all(
-        2,
-        b"       vmdkmap walk OFFSET LENGTH PLACES < DESCRIPTOR    (PLACES is 0 to 1024)\n",
-    );
-    io::write_all(2, b"as in: vmdkmap < reel.vmdk\n");
-    io::write_all(2, b"       vmdkmap map 2047 100 < reel.vmdk\n");
-    io::write_all(2, b"       vmdkmap walk 0 4096 1024 < reel.vmdk\n");
+fn usage(rt: &impl Eprint) {
+    let _ = rt.eprint(USAGE);
 }
 
-// Whether the input ends after n bytes: a read that failed has ended nothing, and fails again.
-fn is_whole(n: usize) -> bool {
-    if 65536 < n {
-        return true;
+// The system's words for an error, without the number that std adds.
+fn words(error: &str) -> &str {
+    match error.split_once(" (os error ") {
+        Some((words, _)) => words,
+        None => error,
     }
-    let mut next = [0u8; 1];
-    libc::read(0, &mut next) == 0
+}
+
+// Tells on standard error what failed, and why.
+fn fail(rt: &(impl Eprint + Alloc), what: &str, error: io::Error) -> ExitCode {
+    let _ = match format!(in rt.alloc(); "{error}") {
+        Ok(text) => eprintln!(rt; "{what}: {}", words(text.as_str())),
+        Err(_) => eprintln!(rt; "{what}: {error}"),
+    };
+    ExitCode::FAILURE
+}
+
+// Whether the input ends after n bytes. One of more than 65,536 is answered without its end.
+fn is_whole(from: &mut impl Read, n: usize) -> io::Result<bool> {
+    if 65536 < n {
+        return Ok(true);
+    }
+    let mut next = [0; 1];
+    Ok(from.read(&mut next)? == 0)
+}
+
+// Reads the input; how many bytes it has, or 65,537 where it has more than 65,536.
+fn read_input(from: &mut impl Read, input: &mut [u8]) -> io::Result<usize>
+    ensures { ReadsAtMost result input.new }
+{
+    let n = read_full(from, input)?;
+    if !is_whole(from, n)? {
+        // As at a terminal: the input ended, and went on.
+        return Err(io::Error::new(ErrorKind::InvalidInput, "Invalid argument"));
+    }
+    Ok(n)
 }
 
 // Writes the answer to an input, by way of a buffer.
-fn respond(d: &[u8], asked: Command, out: &mut [u8]) {
+fn respond(rt: &(impl Print + Eprint), d: &[u8], asked: Command, out: &mut [u8]) -> io::Result<()> {
     let n = answer(d, asked, out);
     if out.len() < n {
-        io::write_all(2, b"vmdkmap: the answer is too long\n");
-        return;
+        let _ = rt.eprintln("vmdkmap: the answer is too long");
+        return Ok(());
     }
-    if !io::write_all(1, &out[..n]) {
-        os::fail(b"vmdkmap: standard output");
-    }
+    rt.write_all(&out[..n])
 }
 
 // Reads the input and writes the answer.
-fn run(asked: Command) {
+fn run(rt: &(impl Input + Print + Eprint + Alloc), asked: Command) -> ExitCode {
     let mut input = input_space();
-    let n = io::read_full(0, &mut input);
-    if !is_whole(n) {
-        os::fail(b"vmdkmap: standard input");
-        return;
-    }
+    let n = match read_input(&mut rt.reader(), &mut input) {
+        Ok(n) => n,
+        Err(e) => return fail(rt, "vmdkmap: standard input", e),
+    };
     let mut out = answer_space();
-    respond(&input[..n], asked, &mut out);
+    match respond(rt, &input[..n], asked, &mut out) {
+        Ok(()) => ExitCode::SUCCESS,
+        Err(e) => fail(rt, "vmdkmap: standard output", e),
+    }
 }
 
 // Tells the usage, or reads and answers.
-fn main() {
-    let asked = asked();
+fn main(rt: HostRuntime) -> ExitCode {
+    let asked = asked(&rt);
     match asked {
-        Command::Usage => usage(),
-        Command::Report => run(asked),
-        Command::Map(_, _) => run(asked),
-        Command::Walk(_, _, _) => run(asked),
+        Command::Usage => {
+            usage(&rt);
+            ExitCode::SUCCESS
+        }
+        Command::Report => run(&rt, asked),
+        Command::Map(_, _) => run(&rt, asked),
+        Command::Walk(_, _, _) => run(&rt, asked),
     }
 }

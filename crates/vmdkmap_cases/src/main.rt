@@ -4,11 +4,18 @@
 // which takes the answers from compare/paper.py.
 #![tactic(auto)]
 
+ghost use Rattle.std.specs.Prelude.{◌≤◌, length};
+
+use input::read_full;
 use report::answer::{answer, answer_space, input_space};
 use report::command::{Command, read_command};
+use std::io::Read;
+use std::rt::Files;
+use std::{fs, io};
 use text::words::Word;
 
 // The next word of a line from a place on, empty where there is none.
+#[tactic(auto, using(text::proofs::Bounds::cuts))]
 fn word(l: &[u8], from: usize) -> &[u8] {
     let w = text::words::next_word(l, from);
     match w {
@@ -53,70 +60,78 @@ fn asked(l: &[u8], from: usize) -> Command {
 }
 
 // Writes the answer to an input, by way of a buffer.
-fn respond(d: &[u8], asked: Command, out: &mut [u8]) {
+fn respond(rt: &impl Print, d: &[u8], asked: Command, out: &mut [u8]) -> io::Result<()> {
     let n = answer(d, asked, out);
     if out.len() < n {
-        io::write_all(1, b"too long\n");
-        return;
+        return rt.println("too long");
     }
-    io::write_all(1, &out[..n]);
+    rt.write_all(&out[..n])
+}
+
+// Reads a file; how many bytes it has. One that can't be read, as a folder, is as an empty one.
+fn read_file(file: &mut impl Read, input: &mut [u8]) -> usize
+    ensures { result ≤ length input.new }
+{
+    match read_full(file, input) {
+        Ok(n) => n,
+        Err(_) => 0,
+    }
 }
 
 // Writes the answer to a file.
-fn run(fd: i32, asked: Command) {
+fn run(rt: &impl Print, file: &mut impl Read, asked: Command) -> io::Result<()> {
     let mut input = input_space();
-    let n = io::read_full(fd, &mut input);
+    let n = read_file(file, &mut input);
     let mut out = answer_space();
-    respond(&input[..n], asked, &mut out);
+    respond(rt, &input[..n], asked, &mut out)
+}
+
+// Opens the file of a name, if there is one.
+fn open<R: Files>(rt: &R, name: &[u8]) -> Option<R::File> {
+    let name = str::from_utf8(name).ok()?;
+    fs::open(rt, name).ok()
 }
 
 // Writes a case and its answer; a file that is not there, and a usage, are told.
-fn run_case(l: &[u8]) {
-    io::write_all(1, b"> ");
-    io::write_all(1, l);
-    io::write_all(1, b"\n");
+fn run_case(rt: &(impl Files + Print), l: &[u8]) -> io::Result<()> {
+    rt.write_all(b"> ")?;
+    rt.write_all(l)?;
+    rt.write_all(b"\n")?;
     let asked = asked(l, after(l, 0));
-    let fd = os::open_read(word(l, 0));
-    if fd < 0 {
-        io::write_all(1, b"no such file\n");
-        return;
-    }
+    let Some(mut file) = open(rt, word(l, 0)) else {
+        return rt.println("no such file");
+    };
     match asked {
-        Command::Usage => {
-            io::write_all(1, b"usage\n");
-        }
-        Command::Report => run(fd, asked),
-        Command::Map(_, _) => run(fd, asked),
-        Command::Walk(_, _, _) => run(fd, asked),
+        Command::Usage => rt.println("usage"),
+        Command::Report => run(rt, &mut file, asked),
+        Command::Map(_, _) => run(rt, &mut file, asked),
+        Command::Walk(_, _, _) => run(rt, &mut file, asked),
     }
-    libc::close(fd);
 }
 
 // Runs case after case; how many there were.
-fn run_all(list: &[u8]) -> u64 {
+fn run_all(rt: &(impl Files + Print), list: &[u8]) -> io::Result<u64> {
     let mut at = 0;
     let mut n: u64 = 0;
     while at < list.len() {
         let e = text::find::line_end(list, at);
         if e <= at {
-            return n;
+            return Ok(n);
         }
         if list.len() <= e {
-            return n;
+            return Ok(n);
         }
-        run_case(&list[at..e]);
+        run_case(rt, &list[at..e])?;
         at = e + 1;
         n += 1;
     }
-    n
+    Ok(n)
 }
 
 // Reads the list, runs its cases and counts them.
-fn main() {
-    let mut space = io::large_buffer();
-    let n = io::read_full(0, &mut space);
-    let count = run_all(&space[..n]);
-    io::write_all(1, b"cases ");
-    io::print_decimal(1, count);
-    io::write_all(1, b"\n");
+fn main(rt: HostRuntime) -> io::Result<()> {
+    let mut space = [0; 65536];
+    let n = read_full(&mut rt.reader(), &mut space)?;
+    let count = run_all(&rt, &space[..n])?;
+    println!(rt; "cases {count}")
 }
