@@ -18,22 +18,17 @@ DEF = re.compile(r"^(?:abbrev |unfoldable )*(?:pub )(?:(data|record|ruleset) )?(
 def imports(text, prefix):
     """local name -> (module, name), of the `use` lines of a file"""
     found = {}
-    for m in re.finditer(r"^" + prefix + r"use (Rattle·\S+)\.\{(.*?)\};?$", text, re.M):
+    for m in re.finditer(r"^" + prefix + r"use (Rattle\.\S+)\.\{(.*?)\};?$", text, re.M | re.S):
         for item in m.group(2).split(","):
             name, _, local = item.strip().partition(" as ")
-            found[(local or name).strip()] = (facade(m.group(1)), name.strip())
+            found[(local or name).strip()] = (m.group(1), name.strip())
     return found
-
-
-def facade(module):
-    """Rattle·x·specs.specs.M and Rattle·x.specs.M are one module"""
-    return re.sub(r"^Rattle·(\w+)·(specs|proofs)\.\2", r"Rattle·\1.\2", module)
 
 
 definitions, order = {}, []                         # (module, name) -> names that its text has
 for path in sorted(glob.glob("crates/*/specs/**/*.antt", recursive=True)):
     crate, rest = re.match(r"crates/(\w+)/specs/(.*)\.antt", path).groups()
-    module = f"Rattle·{crate}.specs." + rest.replace("/", ".")
+    module = f"Rattle.{crate}.specs." + rest.replace("/", ".")
     text = open(path, encoding="utf-8").read()
     known, current = imports(text, ""), None
     for line in text.split("\n"):
@@ -61,7 +56,7 @@ for lib in glob.glob("crates/*/src/lib.rt") + glob.glob("crates/*/src/main.rt"):
     for path in [lib] + [f"crates/{crate}/src/{m}.rt" for m in re.findall(r"^pub mod (\w+);", top, re.M)]:
         text = open(path, encoding="utf-8").read()
         known = imports(text, "ghost ")
-        for m in re.finditer(r"^(?:#\[no_mangle\]\n)? *pub (?:extern \"C\" )?fn .*?\n *\{$", text, re.S | re.M):
+        for m in re.finditer(r"^(?:#\[unsafe\(no_mangle\)\]\n)? *pub (?:extern \"C\" )?fn .*?\n *\{$", text, re.S | re.M):
             for w in WORD.findall(" ".join(re.findall(r"(?:ensures|requires) .*", m.group(0)))):
                 if w in known:
                     roots.add(known[w])
