@@ -1,9 +1,9 @@
 -- A call of a function that takes a `&` and plain data, and returns plain data, as a step of a walk whose function holds that `&`: what the `&` owns and the tokens of the lifetimes are handed over, the tokens come back, and so does a fact on the machine value returned. It says nothing of the crate.
---     asks-held        what is asked, from the tokens P and what the parameters own, Q
+--     asks_held        what is asked, from the tokens P and what the parameters own, Q
 --     own_first        what the parameters own, where all but the first are plain
---     leaves-held      what comes back: what is left of the parameters, Q, the tokens P, and what is told of the machine value returned
---     answers-held     the same where nothing is left, and it is one of f
---     alive-one, one-alive, two-alive     the tokens of one lifetime, and of two
+--     leaves_held      what comes back: what is left of the parameters, Q, the tokens P, and what is told of the machine value returned
+--     answers_held     the same where nothing is left, and it is one of f
+--     alive_one, one_alive, two_alive     the tokens of one lifetime, and of two
 -- Assumes `Logic`.
 use mathlib.Core.Path.{◌≡◌, subst}
 use mathlib.Core.List.{List, [], ◌∷◌}

@@ -1,6 +1,6 @@
 -- An element of an array that is a part of a cell, as `types.Part`'s `sub` is a field: so `look_raw_in ! k (item ! i … (sub ! 2 refl (whole !)))` reads `x.2[i]`. It says nothing of the crate.
 --     item             element i of the array's cell that p finds
---     look-raw-in      `types.Part`'s `look_in` for a cell that stands at the raw form of the place's type, as what lies behind a reference does
+--     look_raw_in      `types.Part`'s `look_in` for a cell that stands at the raw form of the place's type, as what lies behind a reference does
 -- Assumes `Logic` (of it `at_elems`, `elems_at`, `raw_at`, `at_raw`).
 use mathlib.Core.Path.{◌≡◌, refl, sym, ◌∙◌, ap, subst}
 use Prim.Native.Nat.{ℕ, zero, suc, ◌+◌, ◌<◌}

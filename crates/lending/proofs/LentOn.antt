@@ -1,6 +1,6 @@
 -- A `&κ mut` of a struct that a walk holds, lent again to a call of a function that returns nothing: it comes back at the value that the function's `ensures` tells of its last. It says nothing of the crate.
 --     After            what the holder has once the call has returned r: the `&κ mut` at z, and the token
---     lends-on         own (the `&κ mut` at h) ∗ [κ]_q  ⊢ ⇛ the call, and then After
+--     lends_on         own (the `&κ mut` at h) ∗ [κ]_q  ⊢ ⇛ the call, and then After
 -- Assumes `Logic`.
 use mathlib.Core.Path.{◌≡◌}
 use Prim.Native.Nat.{ℕ}

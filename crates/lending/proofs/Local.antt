@@ -1,5 +1,5 @@
 -- A local array that is lent as a `&mut [T]`, and comes back: `Denote/ArrayMemory.antt` and `Denote/Lend.antt`, from a local's cell to a local's cell. It says nothing of the crate.
---     lends-array      the cell of a local array of xs  ⊢ ⇛ ∃ γ. own (the `&κ mut [T]` ((b, 0), γ, xs)) ∗ the lender's part
+--     lends_array      the cell of a local array of xs  ⊢ ⇛ ∃ γ. own (the `&κ mut [T]` ((b, 0), γ, xs)) ∗ the lender's part
 --     array_back       [†κ] ∗ the lender's part ∗ finally γ zs  ⊢ ⇛ ∃ v. the local's cell again, at a machine value v of zs
 -- Assumes `Logic`.
 use mathlib.Core.Path.{◌≡◌, refl, sym, subst}

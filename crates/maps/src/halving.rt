@@ -3,7 +3,7 @@ ghost use Rattle.std.specs.Prelude.{◌≡◌, ◌+◌, ◌-◌, ◌<◌, ◌≤
 ghost use Rattle.lines.specs.Record.{most};
 ghost use Rattle.tables.specs.Build.{no_row};
 ghost use Rattle.maps.specs.Map.{nowhere, middle as middle_of, halve};
-ghost use Rattle.maps.specs.inside.Halving.{head_of, upon, packed, kept_row, unpack_of, window as windowOf, next_of};
+ghost use Rattle.maps.specs.inside.Halving.{head_of, upon, packed, kept_row, unpack_of, window as window_of, next_of};
 
 use tables::table::{Row, Table};
 use text::sector::Bytes;
@@ -97,7 +97,7 @@ pub(crate) fn unpack(code: usize) -> Hit
 // The window from lo up to hi after a look at row mid, and the answer if that row holds the offset.
 fn window(more: bool, lo: usize, hi: usize, mid: usize, looked: usize) -> Next
     requires { (mid < most) × (looked < most) }
-    ensures { result ≡ windowOf more lo hi mid looked }
+    ensures { result ≡ window_of more lo hi mid looked }
 {
     Next {
         more,

@@ -10,7 +10,7 @@ use mathlib.Core.Path.{◌≡◌, refl, sym, ◌∙◌}
 use lib.ListN.{length, get_or, length-append, get_or-append}
 use borrow.Author.Tests.{ltb-true, ltb-false, le-leb}
 use lib.Dec.{ltb}
-use Rattle.text.specs.Number.{digit as isDigit, all_digits, value, number_of}
+use Rattle.text.specs.Number.{digit as is_digit, all_digits, value, number_of}
 use Rattle.text.specs.Sector.{largest}
 use Rattle.text.specs.declared.number.Num.TheVariants.{Value}
 use Rattle.text.proofs.Flat.{by_test, within_in}
@@ -18,14 +18,14 @@ use Rattle.text.proofs.Numerals.{number_in}
 use Rattle.puts.specs.Decimal.{digit, digits_in, decimal_of}
 
 -- a digit's byte is one
-digit_is : (n : ℕ) → isDigit (digit (n % 10)) ≡ true
+digit_is : (n : ℕ) → is_digit (digit (n % 10)) ≡ true
 digit_is n = within_in 0x30 0x39 (digit (n % 10)) (omega arith) (omega arith)
 
-all_snoc : (xs : List ℕ) (b : ℕ) → all_digits xs ≡ true → isDigit b ≡ true → all_digits (xs ++ (b ∷ [])) ≡ true
+all_snoc : (xs : List ℕ) (b : ℕ) → all_digits xs ≡ true → is_digit b ≡ true → all_digits (xs ++ (b ∷ [])) ≡ true
 unfolding all_digits
 all_snoc [] b h d = rw d
 all_snoc (x ∷ xs) b h d =
-    by_test (isDigit x)
+    by_test (is_digit x)
     (λ e. rw e (all_snoc xs b (rw e at h) d))
     (λ e. let g : false ≡ true = rw e at h in let z : ◌≡◌ {A = ℕ} 0 1 = cc in absurd (omega arith))
 

@@ -1,5 +1,5 @@
 -- An answer is a few lines and at most one line for each row, in which its name stands, and the names lie in the input.
--- So it has at most as many bytes as the input, with rowMost more for each row and headMost besides.
+-- So it has at most as many bytes as the input, with row_most more for each row and head_most besides.
 -- Assumes nothing.
 use Prim.Native.Nat.{ℕ, suc, ◌+◌, ◌*◌, ◌<◌, ◌≤◌, min}
 use native.Mathlib.Omega.{arith}

@@ -31,7 +31,7 @@ use Rattle.tables.specs.declared.table.ShallowMapping.{ShallowMapping}
 use Rattle.tables.specs.declared.table.ShallowMapping.TheVariants.{Eof, Zero as ZeroAt, Raw, Refused}
 use Rattle.maps.specs.Alike.{AlikeTables}
 use Rattle.maps.specs.Map.{map_of}
-use Rattle.maps.specs.Place.{Place, past as end, locked as lockedBy, zeros as zerosBy, file as file_by, within, bytes_in, place_from, place_of}
+use Rattle.maps.specs.Place.{Place, past as end, locked as locked_by, zeros as zeros_by, file as file_by, within, bytes_in, place_from, place_of}
 use Rattle.maps.specs.Walk.{Walk}
 use Rattle.theorems.specs.Statements.{place_after, sayings, sayings_of, extents_in, LineAt}
 use Rattle.theorems.specs.Rows.{Builds}
@@ -45,8 +45,8 @@ use Rattle.theorems.proofs.Tiles.{all_map}
 -- ---- a place by an extent's number, with the names that the numbers have
 abbrev named : (ℕ → List ℕ) → Place → NamedPlace
 named f end = past
-named f (lockedBy i) = locked
-named f (zerosBy i) = zeros
+named f (locked_by i) = locked
+named f (zeros_by i) = zeros
 named f (file_by i a w) = file (f i) a w
 
 -- the lines that say an extent, from number i on, have these names
@@ -94,14 +94,14 @@ lines_named f p i (l ∷ ls) n o =
 -- what is known of the one is known of the other
 named_past : (f : ℕ → List ℕ) (q : Place) → named f q ≡ past ↔ q ≡ end
 named_past f end = (λ e. refl, λ e. refl)
-named_past f (lockedBy i) = (λ e. cc, λ e. cc)
-named_past f (zerosBy i) = (λ e. cc, λ e. cc)
+named_past f (locked_by i) = (λ e. cc, λ e. cc)
+named_past f (zeros_by i) = (λ e. cc, λ e. cc)
 named_past f (file_by i a w) = (λ e. cc, λ e. cc)
 
 named_run : (f : ℕ → List ℕ) (q : Place) (run : ℕ) → run_by (named f q) run ≡ run_at q run
 named_run f end run = refl
-named_run f (lockedBy i) run = refl
-named_run f (zerosBy i) run = refl
+named_run f (locked_by i) run = refl
+named_run f (zeros_by i) run = refl
 named_run f (file_by i a w) run = refl
 
 -- ---- where a refusal is due
@@ -158,8 +158,8 @@ module _ (d : List ℕ) (u t : Table) (same : AlikeTables u t) (a : (read_of d).
   -- what a mapping shows of a place
   shown_due : (q : Place) → seen_by d u (shown q) ≡ due_at (named (name_at d u) q)
   shown_due end = refl
-  shown_due (lockedBy i) = refl
-  shown_due (zerosBy i) = refl
+  shown_due (locked_by i) = refl
+  shown_due (zeros_by i) = refl
   shown_due (file_by i f w) = by_test (leb f largest) (λ e. rw e) (λ e. rw e)
 
   -- a mapping is refused exactly if it shows the refusal

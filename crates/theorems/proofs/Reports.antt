@@ -19,7 +19,7 @@ use Rattle.text.specs.declared.sector.Bytes.{Bytes}
 use Rattle.keys.specs.Key.{geometry_key, key_of}
 use Rattle.lines.specs.Kept.{kept_at, kept_of, unquoted_of}
 use Rattle.lines.specs.Extent.{second_of, third_of, three_words, file_name_of, file_start_of, flat_line, no_access_line, extent_line}
-use Rattle.lines.specs.Line.{version_of, geometry_of, geometry_line, value_of, key_line, access_word as wordOfAccess, access_line, text_line, line_of}
+use Rattle.lines.specs.Line.{version_of, geometry_of, geometry_line, value_of, key_line, access_word as word_of_access, access_line, text_line, line_of}
 use Rattle.lines.specs.Record.{filled, read_in, bare}
 use Rattle.lines.specs.declared.record.Text.{Text}
 use Rattle.lines.specs.declared.record.Refusal.{Refusal}
@@ -27,7 +27,7 @@ use Rattle.lines.specs.declared.record.Verdict.{Verdict}
 use Rattle.lines.specs.declared.record.Verdict.TheVariants.{Sound, Refused}
 use Rattle.lines.specs.declared.record.VmdkAccessType.{VmdkAccessType}
 use Rattle.descriptor.specs.Read.{set_of, sizes_from, checked, read_lines, read_of}
-use Rattle.probing.specs.Probe.{probe_key, probe_line as probeOne, probe_lines, probe_of}
+use Rattle.probing.specs.Probe.{probe_key, probe_line as probe_one, probe_lines, probe_of}
 use Rattle.tables.specs.Build.{rows_from, build_of}
 use Rattle.tables.specs.declared.table.Built.{Built}
 use Rattle.tables.specs.declared.table.Source.TheVariants.{Flat}
@@ -46,7 +46,7 @@ use Rattle.theorems.specs.Reports.{report_due, unended, RefusedBy, Opens, OnlyRe
 
 -- ---- the report of document 01
 pub report_computes : (report_of (lines report) ≡ lines report_due) × (report_of (unended report) ≡ lines report_due)
-unfolding report_of join_lines sectors_of lead_of tail_of char_of blank text_from text_at sound drop_blanks last_end trim_text trim_of trimmed run_text run_of word_of find_from find_at same begins strip_of all_digits value digits_of digits_at sign_of number_of lines_of geometry_key key_of kept_at kept_of unquoted_of second_of third_of three_words file_name_of file_start_of flat_line no_access_line extent_line version_of geometry_of geometry_line value_of key_line wordOfAccess access_line text_line line_of set_of sizes_from checked read_lines read_of probe_key probeOne probe_lines probe_of bytes_of filled read_in bare rows_from build_of digits_in decimal_of spaced ended line lines_from lines_to name_in refused_line open_of probe_line row_line head_lines table_lines
+unfolding report_of join_lines sectors_of lead_of tail_of char_of blank text_from text_at sound drop_blanks last_end trim_text trim_of trimmed run_text run_of word_of find_from find_at same begins strip_of all_digits value digits_of digits_at sign_of number_of lines_of geometry_key key_of kept_at kept_of unquoted_of second_of third_of three_words file_name_of file_start_of flat_line no_access_line extent_line version_of geometry_of geometry_line value_of key_line word_of_access access_line text_line line_of set_of sizes_from checked read_lines read_of probe_key probe_one probe_lines probe_of bytes_of filled read_in bare rows_from build_of digits_in decimal_of spaced ended line lines_from lines_to name_in refused_line open_of probe_line row_line head_lines table_lines
 report_computes = (refl, refl)
 
 pub empty_computes : report_of [] ≡ lines ("probe no" ∷ "refused 1 0" ∷ [])

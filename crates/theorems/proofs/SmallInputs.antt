@@ -21,7 +21,7 @@ use Rattle.lines.specs.Kept.{kept_at, kept_of}
 use Rattle.lines.specs.Extent.{second_of, third_of, three_words, file_name_of, file_start_of, flat_line, no_access_line, extent_line}
 use Rattle.text.specs.Sector.{sectors_of, bytes_of}
 use Rattle.text.specs.Text.{text_from, text_at, sound, drop_blanks, last_end, trim_text, trim_of, trimmed, run_text, run_of, word_of}
-use Rattle.lines.specs.Line.{version_of, value_of, key_line, access_word as wordOfAccess, access_line, text_line, line_of}
+use Rattle.lines.specs.Line.{version_of, value_of, key_line, access_word as word_of_access, access_line, text_line, line_of}
 use Rattle.lines.specs.Record.{at_line, no_read, most, most_bytes, no_text, no_desc, no_record, record_of, filled, read_in, bare, counted, refusal}
 use Rattle.lines.specs.declared.line.Said.{Said}
 use Rattle.lines.specs.declared.line.Said.TheVariants.{Nothing, Extent, Set, Refused as Said-as-Refused}
@@ -138,7 +138,7 @@ abbrev pub joined_table : Table
 joined_table = (build_of (read_of joined).descriptor).table
 
 pub joined_holds : (joined_table.count ≡ 5) × (name_at joined joined_table 0 ≡ ascii "reel a.vmdk") × (name_at joined (shifted joined_table) 0 ≡ ascii "c") × (name_at joined joined_table 2 ≡ ascii "reel b.vmdk") × Reachable (counted (read_of joined).descriptor)
-unfolding sectors_of lead_of tail_of char_of blank text_from text_at sound drop_blanks last_end trim_text trim_of trimmed run_text run_of word_of find_from find_at same begins all_digits value digits_of digits_at sign_of number_of lines_of join_lines key_of kept_at kept_of second_of third_of three_words file_name_of file_start_of flat_line no_access_line extent_line version_of value_of key_line wordOfAccess access_line text_line line_of set_of sizes_from checked read_lines read_of bytes_of filled read_in bare rows_from build_of
+unfolding sectors_of lead_of tail_of char_of blank text_from text_at sound drop_blanks last_end trim_text trim_of trimmed run_text run_of word_of find_from find_at same begins all_digits value digits_of digits_at sign_of number_of lines_of join_lines key_of kept_at kept_of second_of third_of three_words file_name_of file_start_of flat_line no_access_line extent_line version_of value_of key_line word_of_access access_line text_line line_of set_of sizes_from checked read_lines read_of bytes_of filled read_in bare rows_from build_of
 joined_holds = (refl, refl, refl, refl, (reach 3 refl, (reach 0 refl, (reach 1 refl, (tt, (tt, tt))))))
 
 -- its first byte, and the name of the wrong file in its place
@@ -282,11 +282,11 @@ abbrev pub behind : List ℕ
 behind = join_lines (map ascii ("x=" ∷ "RW 1 ZERO" ∷ []))
 
 pub alone_holds : ByLine alone × AllSound (sayings_of alone) × (length (extents_in (sayings_of alone)) ≡ 1)
-unfolding sectors_of lead_of tail_of char_of blank text_from text_at sound drop_blanks last_end trim_text trim_of trimmed run_text run_of word_of find_from find_at same begins all_digits value digits_of digits_at sign_of number_of lines_of join_lines key_of kept_at kept_of second_of third_of three_words file_name_of file_start_of flat_line extent_line version_of value_of key_line wordOfAccess access_line text_line line_of sayings refuses extents_in
+unfolding sectors_of lead_of tail_of char_of blank text_from text_at sound drop_blanks last_end trim_text trim_of trimmed run_text run_of word_of find_from find_at same begins all_digits value digits_of digits_at sign_of number_of lines_of join_lines key_of kept_at kept_of second_of third_of three_words file_name_of file_start_of flat_line extent_line version_of value_of key_line word_of_access access_line text_line line_of sayings refuses extents_in
 alone_holds = (record { least = leb-true least_bytes (length alone) refl; small = leb-true (length alone) most_bytes refl; plain = refl }, (refl, leb-true 1 most refl), refl)
 
 pub behind_holds : ((read_of behind).verdict ≡ refusal 15 1) × (length (stored_of behind) ≡ 0) × (length (extents_in (sayings_of behind)) ≡ 1)
-unfolding sectors_of lead_of tail_of char_of blank text_from text_at sound drop_blanks last_end trim_text trim_of trimmed run_text run_of word_of find_from find_at same begins all_digits value digits_of digits_at sign_of number_of lines_of join_lines geometry_key key_of kept_at kept_of second_of third_of three_words file_name_of file_start_of flat_line extent_line version_of value_of key_line wordOfAccess access_line text_line line_of read_lines read_of said_before stored_of sayings extents_in
+unfolding sectors_of lead_of tail_of char_of blank text_from text_at sound drop_blanks last_end trim_text trim_of trimmed run_text run_of word_of find_from find_at same begins all_digits value digits_of digits_at sign_of number_of lines_of join_lines geometry_key key_of kept_at kept_of second_of third_of three_words file_name_of file_start_of flat_line extent_line version_of value_of key_line word_of_access access_line text_line line_of read_lines read_of said_before stored_of sayings extents_in
 behind_holds = (refl, refl, refl)
 
 pub not_dropped : ((d : List ℕ) → ByLine d → AllSound (sayings_of d) → [] ≡ read_from 1 (sayings_of d)) → ⊥
@@ -356,7 +356,7 @@ abbrev pub overfull : List ℕ
 overfull = lines ("version=1" ∷ "RW 36028797018963967 ZERO" ∷ "RW 1 ZERO" ∷ [])
 
 sizes_refused : ((read_of oversized).verdict ≡ refusal 18 2) × ((read_of overfull).verdict ≡ refusal 19 3)
-unfolding sectors_of lead_of tail_of char_of blank text_from text_at sound drop_blanks last_end trim_text trim_of trimmed run_text run_of word_of find_from find_at same begins all_digits value digits_of digits_at sign_of number_of lines_of geometry_key key_of kept_at kept_of second_of third_of three_words file_name_of file_start_of flat_line extent_line version_of value_of key_line wordOfAccess access_line text_line line_of set_of bytes_of sizes_from checked read_lines read_of
+unfolding sectors_of lead_of tail_of char_of blank text_from text_at sound drop_blanks last_end trim_text trim_of trimmed run_text run_of word_of find_from find_at same begins all_digits value digits_of digits_at sign_of number_of lines_of geometry_key key_of kept_at kept_of second_of third_of three_words file_name_of file_start_of flat_line extent_line version_of value_of key_line word_of_access access_line text_line line_of set_of bytes_of sizes_from checked read_lines read_of
 sizes_refused = (refl, refl)
 
 abbrev pub large : Record
