@@ -1,5 +1,3 @@
-pub mod Empties
-pub mod Steps
-pub mod Stores
 pub mod Intos
+pub mod Steps
 pub mod Turns

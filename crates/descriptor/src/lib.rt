@@ -3,4 +3,3 @@
 
 pub mod empty;
 pub mod read;
-mod stepping;

@@ -10,8 +10,7 @@ use Rattle.tables.specs.declared.table.Row.{Row}
 use Rattle.tables.specs.declared.table.Table.{Table}
 use Rattle.puts.specs.Decimal.{decimal_of}
 use Rattle.phrases.specs.Line.{line, lines_to, name_in, access_word}
-use Rattle.phrases.specs.Opening.{open_of, unless}
-use Rattle.phrases.specs.declared.opening.Opened.{Opened}
+use Rattle.phrases.specs.Opening.{Opened, open_of, unless}
 
 -- the probe's line
 abbrev pub yes_no : Bool → List ℕ

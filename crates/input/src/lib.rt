@@ -8,7 +8,7 @@ ghost use Rattle.std.specs.Io.KnownBytes.{Consumes, IsAtEnd};
 use std::io;
 use std::io::Read;
 
-// Reads until the buffer is full or the input ends; how many bytes it put at the buffer's start.
+// Reads until the buffer is full or the input ends; how many bytes it put at the buffer's start. (std's `read_exact` does not say how many an input has that ends before.)
 pub fn read_full<R: Read>(from: &mut R, buf: &mut [u8]) -> io::Result<usize>
     ensures in_bounds { ReadsAtMost result buf.new }
     ensures bytes { IfOk result (λ n. Consumes (R.remaining from.old) (R.remaining from.new) (take n buf.new)) }

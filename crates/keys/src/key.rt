@@ -27,42 +27,39 @@ pub enum Key {
 }
 
 // Which of the disk database's keys a text is.
+#[tactic(auto, unfolding(crate::specs::Key::geometry_key))]
 fn geometry_key(k: &[u8]) -> Key
     ensures { result ≡ geometry_key k.now }
 {
     if is(k, b"ddb.geometry.sectors") {
-        return Key::Geometry(Geometry::Sectors);
+        Key::Geometry(Geometry::Sectors)
+    } else if is(k, b"ddb.geometry.heads") {
+        Key::Geometry(Geometry::Heads)
+    } else if is(k, b"ddb.geometry.cylinders") {
+        Key::Geometry(Geometry::Cylinders)
+    } else if starts_with(k, b"ddb.") {
+        Key::Ddb
+    } else {
+        Key::Unknown
     }
-    if is(k, b"ddb.geometry.heads") {
-        return Key::Geometry(Geometry::Heads);
-    }
-    if is(k, b"ddb.geometry.cylinders") {
-        return Key::Geometry(Geometry::Cylinders);
-    }
-    if starts_with(k, b"ddb.") {
-        return Key::Ddb;
-    }
-    Key::Unknown
 }
 
-// Which key a text is.
+// Which key a text is. A `match` on the texts proves no plainer: its last arm is reached byte by byte, in some seventy ways.
+#[tactic(auto, unfolding(crate::specs::Key::key_of))]
 pub fn key_of(k: &[u8]) -> Key
     ensures { result ≡ key_of k.now }
 {
     if is(k, b"version") {
-        return Key::Version;
+        Key::Version
+    } else if is(k, b"CID") {
+        Key::Cid
+    } else if is(k, b"parentCID") {
+        Key::ParentCid
+    } else if is(k, b"createType") {
+        Key::CreateType
+    } else if is(k, b"parentFileNameHint") {
+        Key::ParentFileNameHint
+    } else {
+        geometry_key(k)
     }
-    if is(k, b"CID") {
-        return Key::Cid;
-    }
-    if is(k, b"parentCID") {
-        return Key::ParentCid;
-    }
-    if is(k, b"createType") {
-        return Key::CreateType;
-    }
-    if is(k, b"parentFileNameHint") {
-        return Key::ParentFileNameHint;
-    }
-    geometry_key(k)
 }

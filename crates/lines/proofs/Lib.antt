@@ -1,5 +1,4 @@
 pub mod Kepts
-pub mod Extents
-pub mod Settings
+pub mod Founds
 pub mod Lines
 pub mod Overs

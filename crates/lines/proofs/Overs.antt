@@ -1,11 +1,12 @@
 -- Places in the first of which a list is stored: what they hold then, whatever they held before. Each law is by induction over the list, or follows from where it ends.
 -- Assumes nothing.
-use Prim.Native.Nat.{ℕ, zero, suc, ◌-◌, ◌≤◌, ◌<◌}
+use Prim.Native.Nat.{ℕ, zero, suc, ◌+◌, ◌-◌, ◌≤◌, ◌<◌}
 use native.Mathlib.Omega.{arith}
+use native.Mathlib.Numerals.{add-one}
 use mathlib.Core.Path.{◌≡◌, refl, sym, ◌∙◌, ap}
-use mathlib.Core.List.{List, [], ◌∷◌, ◌++◌}
-use lib.ListN.{length, take, drop, set, get_or, replicate, length-append, length-drop, take-append-drop}
-use lib.Seq.{drop-set-lt}
+use mathlib.Core.List.{List, [], ◌∷◌, ◌++◌, append-nil, append_assoc}
+use lib.ListN.{length, take, drop, set, get_or, replicate, length-append, length-take, length-drop, take-append-drop}
+use lib.Seq.{drop-set-lt, take-suc-set}
 use Rattle.lines.specs.Record.{most, filled, over}
 
 module _ {A : Type 0} where
@@ -43,6 +44,11 @@ module _ {A : Type 0} where
   unfolding over
   over_length xs ys h = length-append xs (drop (length xs) ys) ∙ omega (arith, length-drop (length xs) ys)
 
+  -- an array of blank places holds nothing
+  pub all_blank : {x none : A} → x ≡ none → replicate most x ≡ filled none []
+  unfolding filled
+  all_blank q = ap (replicate most) q
+
   -- blank places are filled
   pub over_blank : (none : A) (xs : List A) → over xs (filled none []) ≡ filled none xs
   unfolding over filled
@@ -57,3 +63,16 @@ module _ {A : Type 0} where
   pub over_set : (ys zs : List A) (i : ℕ) (x : A) → i < length ys → over ys (set zs i x) ≡ over ys zs
   unfolding over
   over_set ys zs i x h = rw (drop-set-lt (length ys) zs i x h)
+
+  -- the places so far, where nothing more is stored
+  pub over_so_far : (zs : List A) (n : ℕ) → n ≤ length zs → over (take n zs ++ []) zs ≡ zs
+  over_so_far zs n h = ap (λ (xs : List A). over xs zs) (append-nil (take n zs)) ∙ over_held (take n zs) zs n refl (length-take n zs ∙ omega arith)
+
+  -- one more is stored behind those so far
+  pub over_next : (zs ys : List A) (i : ℕ) (x : A) → i < length zs → over (take (i + 1) (set zs i x) ++ ys) (set zs i x) ≡ over (take i zs ++ (x ∷ ys)) zs
+  over_next zs ys i x h =
+      let xs = take i zs ++ (x ∷ ys) in
+      let front : take (i + 1) (set zs i x) ≡ take i zs ++ (x ∷ []) = ap (λ (j : ℕ). take j (set zs i x)) (add-one i) ∙ take-suc-set zs i x h in
+      let same : take (i + 1) (set zs i x) ++ ys ≡ xs = ap (λ (ks : List A). ks ++ ys) front ∙ append_assoc (take i zs) (x ∷ []) ys in
+      let far : i < length xs = omega (arith, length-append (take i zs) (x ∷ ys), length-take i zs) in
+      ap (λ (ks : List A). over ks (set zs i x)) same ∙ over_set xs zs i x far

@@ -1,3 +1,4 @@
+pub mod Fault
 pub mod Alike
 pub mod Record
 pub mod Kept

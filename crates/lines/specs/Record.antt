@@ -1,13 +1,13 @@
 -- What a record holds: at most 1,024 extents. Places past the count are no access and zeros, of line 0, in a record that was empty before it was read into; an empty text is place 0, length 0.
-use Rattle.std.specs.Prelude.{ℕ, ◌-◌, List, [], ◌++◌, map, length, take, drop, replicate}
+use Rattle.std.specs.Prelude.{ℕ, ◌-◌, List, [], ◌++◌, map, length, take, drop, replicate, ⊤, Result, Err}
 use Rattle.lines.specs.declared.record.Text.{Text}
 use Rattle.lines.specs.declared.record.VmdkParsedExtent.{VmdkParsedExtent}
 use Rattle.lines.specs.declared.record.VmdkParsedStorage.TheVariants.{NoAccess}
 use Rattle.lines.specs.declared.record.ReadExtent.{ReadExtent}
 use Rattle.lines.specs.declared.record.VmdkDesc.{VmdkDesc}
 use Rattle.lines.specs.declared.record.Record.{Record}
-use Rattle.lines.specs.declared.record.Verdict.{Verdict}
-use Rattle.lines.specs.declared.record.Verdict.TheVariants.{Refused}
+use Rattle.lines.specs.declared.record.Fault.{Fault}
+use Rattle.lines.specs.declared.record.Refusal.{Refusal}
 
 -- how many extents a record has room for, and rows a table
 abbrev pub most : ℕ
@@ -69,6 +69,16 @@ bare xs = map (λ (x : ReadExtent). x.extent) xs
 abbrev pub counted : Record → List VmdkParsedExtent
 counted r = bare (read_in r)
 
--- a refusal by its number and its second number
-abbrev pub refusal : ℕ → ℕ → Verdict
-refusal number second = Refused (record { number = number; second = second })
+-- whether an input is sound, or why it is refused
+abbrev pub Verdict : Type 0
+Verdict = Result ⊤ Refusal
+
+-- a refusal by its fault and its second number
+abbrev pub refusal_at : Fault → ℕ → Refusal
+refusal_at fault second = record { fault = fault; second = second }
+
+abbrev pub refused_with : {A : Type 0} → Fault → ℕ → Result A Refusal
+refused_with fault second = Err (refusal_at fault second)
+
+abbrev pub refusal : Fault → ℕ → Verdict
+refusal fault second = refused_with fault second

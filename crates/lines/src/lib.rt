@@ -3,4 +3,5 @@
 
 mod extent;
 pub mod line;
+mod placed;
 pub mod record;

@@ -1,14 +1,15 @@
 // What one line of a descriptor says.
 ghost use Rattle.std.specs.Prelude.{◌≡◌, ◌+◌, ◌≤◌, length};
-ghost use Rattle.lines.specs.Kept.{kept_at, kept_of, unquoted_of};
+ghost use Rattle.lines.specs.Kept.{kept_of, unquoted_of};
 ghost use Rattle.lines.specs.Line.{version_of, geometry_of, measure_of, geometry_line, value_of, key_line, access_word, access_line, text_line, line_of, said_at};
 
 use crate::extent::{no_access_from_descriptor_line, try_from_descriptor_line};
-use crate::record::{Text, VmdkAccessType, VmdkParsedExtent};
+use crate::placed::Placed;
+use crate::record::{Fault, Text, VmdkAccessType, VmdkParsedExtent};
 use keys::key::{Geometry, Key, key_of};
-use text::find::{Place, find_byte, is, strip_quotes};
-use text::number::{Num, number};
-use text::words::{Trimmed, inner, run_end, trim};
+use text::find::{find_byte, is, strip_quotes};
+use text::number::number;
+use text::words::{inner, run_end, trim};
 
 // A value that a line gives to the descriptor.
 #[derive(Clone, Copy)]
@@ -22,13 +23,12 @@ pub enum Setting {
     Cylinders(u64),
 }
 
-// What a line says: nothing, an extent, a value, or the number of its refusal.
+// What a line says, if it is not refused: nothing, an extent, or a value.
 #[derive(Clone, Copy)]
 pub enum Said {
     Nothing,
     Extent(VmdkParsedExtent),
     Set(Setting),
-    Refused(u8),
 }
 
 // The first word of a line, where it is one of the three that an extent line begins with.
@@ -40,70 +40,49 @@ pub enum AccessWord {
     Other,
 }
 
-// What is kept of a text of which the part from a up to e is wanted, and which lies at a place of the descriptor.
-pub(crate) fn kept(place: usize, a: usize, e: usize) -> Text
-    requires { (a ≤ e) × (place + e ≤ 2097152) }
-    ensures { result ≡ kept_at place a e }
-{
-    if a == e {
-        return Text {
-            place: 0,
-            length: 0,
-        };
-    }
-    Text {
-        place: place + a,
-        length: e - a,
-    }
-}
-
 // What is kept of a text: what trimming leaves.
-pub(crate) fn keep(t: &[u8], place: usize) -> Text
-    requires { place + length t.now ≤ 2097152 }
-    ensures { result ≡ kept_of place t.now }
+#[tactic(auto, using(crate::proofs::Kepts::ranges), unfolding(crate::specs::Kept::kept_of, crate::specs::Kept::kept_at))]
+pub(crate) fn keep(t: Placed) -> Text
+    ensures { result ≡ kept_of t.entry.place t.entry.bytes.now }
 {
-    let r = trim(t);
-    match r {
-        Trimmed::Range(a, e) => kept(place, a, e),
-        Trimmed::Wrong => kept(0, 0, 0),
+    match trim(t.bytes) {
+        Some((a, e)) => t.kept(a, e),
+        None => Text::NONE,
     }
 }
 
 // What is kept of a text whose quotes are stripped.
-fn keep_unquoted(t: &[u8], place: usize) -> Text
-    requires { place + length t.now ≤ 2097152 }
-    ensures { result ≡ unquoted_of place t.now }
+#[tactic(auto, using(crate::proofs::Kepts::ranges, crate::proofs::Kepts::stripped), unfolding(crate::specs::Kept::unquoted_of, crate::specs::Kept::kept_at))]
+fn keep_unquoted(t: Placed) -> Text
+    ensures { result ≡ unquoted_of t.entry.place t.entry.bytes.now }
 {
-    let r = trim(t);
-    match r {
-        Trimmed::Range(a, e) => {
-            let p = strip_quotes(&t[a..e]);
-            kept(place + a, p.from, p.to)
+    match trim(t.bytes) {
+        Some((a, e)) => {
+            let inner = t.part(a, e);
+            let (from, to) = strip_quotes(inner.bytes);
+            inner.kept(from, to)
         }
-        Trimmed::Wrong => kept(0, 0, 0),
+        None => Text::NONE,
     }
 }
 
 // The version: a number, quotes not stripped.
-fn version(v: &[u8]) -> Said
+#[tactic(auto, using(crate::proofs::Lines::version_fits), unfolding(crate::specs::Line::version_of))]
+fn version(v: &[u8]) -> Result<Said, Fault>
     ensures { result ≡ version_of v.now }
 {
-    let n = number(inner(v), 4294967295);
-    match n {
-        Num::Value(x) => Said::Set(Setting::Version(x as u32)),
-        Num::Bad => Said::Refused(12),
-    }
+    let x = number(inner(v), u32::MAX as u64).ok_or(Fault::VersionNumber)?;
+    Ok(Said::Set(Setting::Version(x as u32)))
 }
 
 // A geometry value: quotes stripped, then a number with no second trim.
-fn parse_desc_value(v: &[u8]) -> Num
+#[tactic(auto, using(crate::proofs::Kepts::stripped), unfolding(crate::specs::Line::geometry_of))]
+fn parse_desc_value(v: &[u8]) -> Option<u64>
     ensures { result ≡ geometry_of v.now }
 {
     let t = inner(v);
-    let p = strip_quotes(t);
-    let a = p.from;
-    let e = p.to;
-    number(&t[a..e], 18446744073709551615)
+    let (from, to) = strip_quotes(t);
+    number(&t[from..to], u64::MAX)
 }
 
 // A geometry value as a setting.
@@ -118,49 +97,47 @@ fn measure(g: Geometry, x: u64) -> Setting
 }
 
 // A line with a geometry value.
-fn geometry(g: Geometry, v: &[u8]) -> Said
+#[tactic(auto, unfolding(crate::specs::Line::geometry_line))]
+fn geometry(g: Geometry, v: &[u8]) -> Result<Said, Fault>
     ensures { result ≡ geometry_line g v.now }
 {
-    let n = parse_desc_value(v);
-    match n {
-        Num::Value(x) => Said::Set(measure(g, x)),
-        Num::Bad => Said::Refused(14),
-    }
+    let x = parse_desc_value(v).ok_or(Fault::GeometryNumber)?;
+    Ok(Said::Set(measure(g, x)))
 }
 
 // What a key with a value says; the value lies at a place of the descriptor.
-fn value(k: Key, v: &[u8], place: usize) -> Said
-    requires { place + length v.now ≤ 2097152 }
-    ensures { result ≡ value_of k place v.now }
+#[tactic(auto, unfolding(crate::specs::Line::value_of))]
+fn value(k: Key, v: Placed) -> Result<Said, Fault>
+    ensures { result ≡ value_of k v.entry.place v.entry.bytes.now }
 {
     match k {
-        Key::Version => version(v),
-        Key::Cid => Said::Set(Setting::Cid(keep(v, place))),
-        Key::ParentCid => Said::Set(Setting::ParentCid(keep(v, place))),
-        Key::CreateType => Said::Set(Setting::CreateType(keep_unquoted(v, place))),
-        Key::ParentFileNameHint => Said::Refused(13),
-        Key::Geometry(g) => geometry(g, v),
-        Key::Ddb => Said::Nothing,
-        Key::Unknown => Said::Refused(15),
+        Key::Version => version(v.bytes),
+        Key::Cid => Ok(Said::Set(Setting::Cid(keep(v)))),
+        Key::ParentCid => Ok(Said::Set(Setting::ParentCid(keep(v)))),
+        Key::CreateType => Ok(Said::Set(Setting::CreateType(keep_unquoted(v)))),
+        Key::ParentFileNameHint => Err(Fault::ParentHint),
+        Key::Geometry(g) => geometry(g, v.bytes),
+        Key::Ddb => Ok(Said::Nothing),
+        Key::Unknown => Err(Fault::OtherKey),
     }
 }
 
 // A line that is no extent line: a key and a value, cut at the first `=`. Without one it is ignored.
-fn key_line(t: &[u8], place: usize) -> Said
-    requires { place + length t.now ≤ 2097152 }
-    ensures { result ≡ key_line place t.now }
+#[tactic(auto, using(crate::proofs::Founds::founds), unfolding(crate::specs::Line::key_line))]
+fn key_line(t: Placed) -> Result<Said, Fault>
+    ensures { result ≡ key_line t.entry.place t.entry.bytes.now }
 {
-    let p = find_byte(t, 0, 0x3D);
-    match p {
-        Place::Here(i) => {
-            let k = key_of(inner(&t[..i]));
-            value(k, &t[i + 1..], place + (i + 1))
+    match find_byte(t.bytes, 0, b'=') {
+        Some(i) => {
+            let k = key_of(inner(&t.bytes[..i]));
+            value(k, t.part(i + 1, t.bytes.len()))
         }
-        Place::Nowhere => Said::Nothing,
+        None => Ok(Said::Nothing),
     }
 }
 
 // Which access a word is.
+#[tactic(auto, unfolding(crate::specs::Line::access_word))]
 fn access_word(w: &[u8]) -> AccessWord
     ensures { result ≡ access_word w.now }
 {
@@ -177,62 +154,60 @@ fn access_word(w: &[u8]) -> AccessWord
 }
 
 // A line whose first word, an access or not, ends at a place of it.
-fn access_line(w: AccessWord, t: &[u8], end: usize, place: usize) -> Said
-    requires { place + length t.now ≤ 2097152 }
-    ensures { result ≡ access_line w place t.now end }
+#[tactic(auto, unfolding(crate::specs::Line::access_line))]
+fn access_line(w: AccessWord, t: Placed, end: usize) -> Result<Said, Fault>
+    ensures { result ≡ access_line w t.entry.place t.entry.bytes.now end }
 {
     match w {
-        AccessWord::NoAccess => no_access_from_descriptor_line(t, end),
-        AccessWord::RdOnly => try_from_descriptor_line(VmdkAccessType::RdOnly, t, end, place),
-        AccessWord::RW => try_from_descriptor_line(VmdkAccessType::RW, t, end, place),
-        AccessWord::Other => key_line(t, place),
+        AccessWord::NoAccess => no_access_from_descriptor_line(t.bytes, end),
+        AccessWord::RdOnly => try_from_descriptor_line(VmdkAccessType::RdOnly, t, end),
+        AccessWord::RW => try_from_descriptor_line(VmdkAccessType::RW, t, end),
+        AccessWord::Other => key_line(t),
     }
 }
 
 // What a trimmed line says.
-fn text_line(t: &[u8], place: usize) -> Said
-    requires { place + length t.now ≤ 2097152 }
-    ensures { result ≡ text_line place t.now }
+#[tactic(auto, using(crate::proofs::Lines::run_take), unfolding(crate::specs::Line::text_line))]
+fn text_line(t: Placed) -> Result<Said, Fault>
+    ensures { result ≡ text_line t.entry.place t.entry.bytes.now }
 {
-    if t.len() == 0 {
-        return Said::Nothing;
+    if t.bytes.len() == 0 {
+        return Ok(Said::Nothing);
     }
-    if t[0] == 0x23 {
-        return Said::Nothing;
+    if t.bytes[0] == b'#' {
+        return Ok(Said::Nothing);
     }
-    let end = run_end(t, 0, false);
-    if t.len() <= end {
-        return key_line(t, place);
+    let end = run_end(t.bytes, 0, false);
+    if t.bytes.len() <= end {
+        return key_line(t);
     }
-    let w = access_word(&t[..end]);
-    access_line(w, t, end, place)
+    let w = access_word(&t.bytes[..end]);
+    access_line(w, t, end)
 }
 
-// What a line says, which lies at a place of the descriptor.
-fn line_within(l: &[u8], place: usize) -> Said
-    requires { place + length l.now ≤ 2097152 }
-    ensures { result ≡ line_of place l.now }
+// What a line says.
+#[tactic(auto, using(crate::proofs::Kepts::ranges, crate::proofs::Lines::line_empty), unfolding(crate::specs::Line::line_of))]
+fn line_within(l: Placed) -> Result<Said, Fault>
+    ensures { result ≡ line_of l.entry.place l.entry.bytes.now }
 {
-    if l.len() == 0 {
-        return Said::Nothing;
+    if l.bytes.len() == 0 {
+        return Ok(Said::Nothing);
     }
-    let r = trim(l);
-    match r {
-        Trimmed::Range(a, e) => text_line(&l[a..e], place + a),
-        Trimmed::Wrong => Said::Refused(4),
-    }
+    let (a, e) = trim(l.bytes).ok_or(Fault::NotUtf8)?;
+    text_line(l.part(a, e))
 }
 
 // Parse a line in the VMDK descriptor file, which lies at a place of it. One that ends past the most bytes of a descriptor is refused.
-pub fn parse_descriptor_line(l: &[u8], place: usize) -> Said
+#[tactic(auto, unfolding(crate::specs::Line::said_at))]
+pub fn parse_descriptor_line(l: &[u8], place: usize) -> Result<Said, Fault>
     ensures { result ≡ said_at place l.now }
 {
     let most = 2097152;
     if most < l.len() {
-        return Said::Refused(2);
+        return Err(Fault::TooLong);
     }
     if most - l.len() < place {
-        return Said::Refused(2);
+        return Err(Fault::TooLong);
     }
-    line_within(l, place)
+    line_within(Placed { bytes: l, place })
 }

@@ -1,4 +1,8 @@
 // What reading a descriptor gives: its values and its extents, in sectors.
+ghost use Rattle.std.specs.Prelude.{◌≡◌};
+ghost use Rattle.lines.specs.Fault.{refusal_number};
+ghost use Rattle.lines.specs.Record.{refusal_at};
+
 use text::sector::Sectors;
 
 // A text of the descriptor: its place and its length in bytes. An empty text is place 0, length 0.
@@ -6,6 +10,14 @@ use text::sector::Sectors;
 pub struct Text {
     pub place: usize,
     pub length: usize,
+}
+
+impl Text {
+    // The empty text.
+    pub const NONE: Text = Text {
+        place: 0,
+        length: 0,
+    };
 }
 
 // Access type for VMDK extents. (No access is a storage of its own.)
@@ -74,16 +86,66 @@ pub struct Record {
     pub extents: [ReadExtent; MOST],
 }
 
-// Why an input is refused: document 01's number, and its second number.
-#[derive(Clone, Copy)]
+// Why an input is refused, in the order of document 01's numbers.
+#[derive(Clone, Copy, Debug, PartialEq, Eq)]
+pub enum Fault {
+    // The length, and a sparse file
+    TooShort = 1,
+    TooLong,
+    Sparse,
+    // A line
+    NotUtf8,
+    SectorCount,
+    NoType,
+    OtherType,
+    NoQuote,
+    OneQuote,
+    NotThreeWords,
+    FileStart,
+    VersionNumber,
+    ParentHint,
+    GeometryNumber,
+    OtherKey,
+    TooManyExtents,
+    // After the lines
+    OtherVersion,
+    SizeTooLarge,
+    SumTooLarge,
+    FileStartTooLarge,
+    // A mapping
+    Inaccessible,
+    OffsetTooLarge,
+    // A record or a table whose count is above its room
+    CountTooLarge,
+    // The program's input
+    InputTooLong,
+}
+
+impl Fault {
+    // Document 01's number.
+    pub fn number(self) -> u8
+        ensures { result ≡ refusal_number self }
+    {
+        self as u8
+    }
+
+    // The refusal for it, with document 01's second number.
+    pub fn at(self, second: usize) -> Refusal
+        ensures { result ≡ refusal_at self second }
+    {
+        Refusal {
+            fault: self,
+            second,
+        }
+    }
+}
+
+// Why an input is refused: the fault, and document 01's second number.
+#[derive(Clone, Copy, Debug, PartialEq, Eq)]
 pub struct Refusal {
-    pub number: u8,
+    pub fault: Fault,
     pub second: usize,
 }
 
-// Whether an input is refused.
-#[derive(Clone, Copy)]
-pub enum Verdict {
-    Sound,
-    Refused(Refusal),
-}
+// Whether an input is sound, or why it is refused.
+pub type Verdict = Result<(), Refusal>;

@@ -15,7 +15,7 @@ use Rattle.tables.specs.Build.{no_row}
 use Rattle.maps.specs.Map.{Search, found, nowhere, middle, decide, halve, in_row, search_of, map_of}
 use Rattle.maps.specs.Walk.{walk_from, walk_of}
 use Rattle.maps.specs.Alike.{AlikeRows, AlikeTables, SameTable}
-use Rattle.maps.proofs.Halves.{by_test, middle_in, mid_row, Finds, halve_finds}
+use Rattle.maps.proofs.Halves.{by_test, middle_in, mid_row, Finds, search_finds}
 
 -- ---- halving
 decide_alike : (r q : Row) → AlikeRows r q → (lo i hi o : ℕ) (f g : ℕ → ℕ → Search) → f (suc i) hi ≡ g (suc i) hi → f lo i ≡ g lo i → decide r lo i hi o f ≡ decide q lo i hi o g
@@ -43,13 +43,9 @@ module _ (s t : Table) (d : AlikeTables s t) where
   row_alike o asked (nowhere n) f = refl
   row_alike o asked (found i n) f = let e = d.rows i f.1 in rw (e.start, e.end, e.source, d.size)
 
-  search_finds : (o : ℕ) → Finds s.rows o s.count (search_of s o)
-  unfolding search_of
-  search_finds o = halve_finds s.count s.rows 0 s.count o s.count (omega arith)
-
   pub map_alike : (o asked : ℕ) → map_of s o asked ≡ map_of t o asked
   unfolding map_of
-  map_alike o asked = rw (row_alike o asked (search_of s o) (search_finds o), search_alike o, d.count, d.size)
+  map_alike o asked = rw (row_alike o asked (search_of s o) (search_finds s o), search_alike o, d.count, d.size)
 
   -- ---- the walk
   from_alike : (room pos left : ℕ) → walk_from room s pos left ≡ walk_from room t pos left

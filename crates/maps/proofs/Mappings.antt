@@ -1,117 +1,92 @@
--- The rules of the functions that search and map: one for each way through each of them. Each holds because the code's tests are the definition's, read as numbers.
+-- The rules of the functions that map: one for each way through each of them. Each holds because the code's tests are the definition's, read as numbers.
 -- Assumes nothing.
-use Prim.Native.Nat.{ℕ, ◌+◌, ◌-◌, ◌/◌, ◌%◌, ◌^◌, ◌≤◌, ◌<◌, min}
+use Prim.Native.Nat.{ℕ, ◌+◌, ◌-◌, ◌^◌, ◌≤◌, ◌<◌, min}
 use native.Mathlib.Omega.{arith}
-use mathlib.Core.Path.{◌≡◌}
-use mathlib.Core.Bool.{Bool, true, false}
-use lib.Dec.{ltb}
-use borrow.Author.Tests.{le-ltb, lt-ltb, le-leb, lt-leb}
-use borrow.Author.Rules.{rules}
+use mathlib.Core.Path.{◌≡◌, refl, sym, ◌∙◌, ap, subst}
+use mathlib.Core.Bool.{Bool}
+use mathlib.Core.List.{List}
+use lib.ListN.{get_or}
+use borrow.Author.Tests.{le-leb, lt-leb}
+use Rattle.std.specs.Prelude.{Option, Some, None, Ok}
 use Rattle.lines.specs.Record.{most}
 use Rattle.text.specs.Sector.{largest}
 use Rattle.text.specs.declared.sector.Bytes.{Bytes}
 use Rattle.lines.specs.declared.record.Text.{Text}
 use Rattle.lines.specs.declared.record.VmdkAccessType.{VmdkAccessType}
 use Rattle.tables.specs.declared.table.Row.{Row}
+use Rattle.tables.specs.declared.table.Table.{Table}
 use Rattle.tables.specs.declared.table.Source.{Source}
 use Rattle.tables.specs.declared.table.Source.TheVariants.{NoAccess, Zero as Zeros, Flat}
 use Rattle.tables.specs.declared.table.ShallowMapping.TheVariants.{Zero, Raw}
 use Rattle.tables.specs.declared.table.Mapping.{Mapping}
-use Rattle.maps.specs.declared.halving.Heading.{Heading}
+use Rattle.tables.specs.Build.{no_row}
 use Rattle.maps.specs.declared.halving.Hit.{Hit}
-use Rattle.maps.specs.declared.halving.Next.{Next}
-use Rattle.maps.specs.declared.mapping.Found.{Found}
-use Rattle.maps.specs.Map.{found, nowhere, writable, sourced, ended, refused}
-use Rattle.maps.proofs.Halves.{holds_late, holds_early}
-use Rattle.maps.specs.inside.Halving.{ends, hit_of, window, unpack_of, next_of, span_of, Held, found_by, answer_of}
-
-module _ (code : ℕ) where
-  pub unpack_found : 0 < code % ends → hit_of (found (code % ends - 1) (code / ends)) ≡ unpack_of code
-  unfolding unpack_of
-  unpack_found h = rw (lt-ltb _ _ h)
-
-  pub unpack_none : code % ends ≤ 0 → hit_of (nowhere (code / ends)) ≡ unpack_of code
-  unfolding unpack_of
-  unpack_none h = rw (le-ltb _ _ h)
-
-pub ruleset unpacks = (unpack_found, unpack_none, rules)
-
-module _ (h : Heading) (o : ℕ) where
-  pub span_many : most < h.count → 0 ≡ span_of h o
-  unfolding span_of
-  span_many a = rw (lt-leb _ _ a)
-
-  pub span_late : {z : ℕ} → h.count ≤ most → z ≡ h.size.0 → z ≤ o → 0 ≡ span_of h o
-  unfolding span_of
-  span_late a k b = rw (le-leb _ _ a, ← k, le-leb _ _ b)
-
-  pub span_some : {z : ℕ} → h.count ≤ most → z ≡ h.size.0 → o < z → h.count ≡ span_of h o
-  unfolding span_of
-  span_some a k b = rw (le-leb _ _ a, ← k, lt-leb _ _ b)
-
-pub ruleset spans = (span_many, span_late, span_some, rules)
+use Rattle.lines.specs.declared.record.Fault.TheVariants.{Inaccessible, OffsetTooLarge, CountTooLarge}
+use Rattle.maps.specs.Map.{Search, found, nowhere, writable, sourced, ended, refused, in_row, search_of, map_of}
+use Rattle.maps.specs.inside.Halving.{hit_of}
+use Rattle.maps.proofs.Halves.{Finds, search_finds}
 
 module _ (s : Source) (i within run n : ℕ) where
-  pub source_locked : {r : Mapping} → s ≡ NoAccess → r ≡ refused 21 n → r ≡ sourced s i within run n
+  pub source_locked : {r : Mapping} → s ≡ NoAccess → r ≡ refused Inaccessible n → r ≡ sourced s i within run n
   unfolding sourced
   source_locked e q = rw (e, q)
 
-  pub source_zero : {a : VmdkAccessType} → s ≡ Zeros a → record { mapping = Zero i; run = run; looked = n } ≡ sourced s i within run n
+  pub source_zero : {a : VmdkAccessType} → s ≡ Zeros a → record { mapping = Ok (Zero i); run = run; looked = n } ≡ sourced s i within run n
   unfolding sourced
   source_zero e = rw e
 
-  pub source_far : {a : VmdkAccessType} {b : Bytes} {name : Text} {z : ℕ} {r : Mapping} → s ≡ Flat a b name → z ≡ b.0 → largest - within < z → within < 2 ^ 64 → r ≡ refused 22 n → r ≡ sourced s i within run n
+  pub source_far : {a : VmdkAccessType} {b : Bytes} {name : Text} {z : ℕ} {r : Mapping} → s ≡ Flat a b name → z ≡ b.0 → (z + within < 2 ^ 64 → ⊥) → r ≡ refused OffsetTooLarge n → r ≡ sourced s i within run n
   unfolding sourced
-  source_far {a} {b} {name} e k l f q = let g : largest < b.0 + within = omega arith in rw (e, lt-leb _ _ g, q)
+  source_far {a} {b} {name} e k l q = let g : largest < b.0 + within = omega arith in rw (e, lt-leb _ _ g, q)
 
-  pub source_flat : {a : VmdkAccessType} {b : Bytes} {name : Text} {z : ℕ} {w : Bool} → s ≡ Flat a b name → z ≡ b.0 → z ≤ largest - within → within < 2 ^ 64 → w ≡ writable a → record { mapping = Raw i (z + within) w; run = run; looked = n } ≡ sourced s i within run n
+  pub source_flat : {a : VmdkAccessType} {b : Bytes} {name : Text} {z end : ℕ} {w : Bool} → s ≡ Flat a b name → z ≡ b.0 → (z + within < 2 ^ 64) × (end ≡ z + within) → w ≡ writable a → record { mapping = Ok (Raw i end w); run = run; looked = n } ≡ sourced s i within run n
   unfolding sourced
-  source_flat {a} {b} {name} e k l f q = let g : b.0 + within ≤ largest = omega arith in rw (e, le-leb _ _ g, q, k)
+  source_flat {a} {b} {name} e k l q = let g : b.0 + within ≤ largest = omega (arith, k, l.0) in rw (e, le-leb _ _ g, q, l.1, k)
 
-pub ruleset sources = (source_locked, source_zero, source_far, source_flat, rules)
+-- the mapping that a row gives, or none
+abbrev by_row : Table → ℕ → ℕ → Option ℕ → ℕ → Mapping
+by_row t o asked None n = ended n
+by_row t o asked (Some i) n =
+    let r : Row = get_or t.rows i no_row in
+    sourced r.source i (o - r.start.0) (min asked (min (t.size.0 - o) (r.end.0 - o))) n
 
--- a hit's row holds the offset
-module _ (h : Heading) (hit : Hit) (r : Row) (o : ℕ) where
-  pub end_after : {z : ℕ} → Held hit r o → hit.found ≡ true → z ≡ r.end.0 → o ≤ z
-  end_after g c k = omega (arith, (g c).1)
+in_row_is : (t : Table) (o asked : ℕ) (s : Search) → by_row t o asked (hit_of s).row (hit_of s).looked ≡ in_row t o asked s
+unfolding in_row
+in_row_is t o asked (found i n) = refl
+in_row_is t o asked (nowhere n) = refl
 
-  pub start_before : {z : ℕ} → Held hit r o → hit.found ≡ true → z ≡ r.start.0 → z ≤ o
-  start_before g c k = omega (arith, (g c).0)
+-- of a row that a search ended at: it holds the offset, and is one of those that count
+abbrev Ends : List Row → ℕ → ℕ → Option ℕ → Type 0
+Ends rows o bound None = Unit {0}
+Ends rows o bound (Some i) = Finds rows o bound (found i 0)
 
-  pub found_row : {a e : ℕ} → hit.found ≡ true → a ≡ r.start.0 → e ≡ r.end.0 → record { heading = h; hit = hit; source = r.source; within = o - a; left = e - o } ≡ found_by h hit r o
-  found_row c a e = rw (c, a, e)
+finds_ends : (rows : List Row) (o bound : ℕ) (s : Search) → Finds rows o bound s → Ends rows o bound (hit_of s).row
+finds_ends rows o bound (found i n) f = f
+finds_ends rows o bound (nowhere n) f = tt
 
-  pub found_none : hit.found ≡ false → record { heading = h; hit = hit; source = NoAccess; within = 0; left = 0 } ≡ found_by h hit r o
-  found_none c = rw c
+pub row_ends : (t : Table) (o : ℕ) {h : Hit} {i : ℕ} → h ≡ hit_of (search_of t o) → h.row ≡ Some i → (((get_or t.rows i no_row).start.0 ≤ o) × (o < (get_or t.rows i no_row).end.0)) × (i < t.count)
+row_ends t o e f =
+    subst (Ends t.rows o t.count) (sym (ap (λ (z : Hit). z.row) e) ∙ f) (finds_ends t.rows o t.count (search_of t o) (search_finds t o))
 
-pub ruleset founds = (end_after, start_before, found_row, found_none, rules)
+-- the ways through `get_mapping`
+module _ (t : Table) (o asked : ℕ) where
+  pub map_many : {m : Mapping} → most < t.count → m ≡ refused CountTooLarge 0 → m ≡ map_of t o asked
+  unfolding map_of
+  map_many a q = rw (lt-leb _ _ a, q)
 
-module _ (f : Found) (o asked : ℕ) {m : Mapping} where
-  pub answer_many : most < f.heading.count → m ≡ refused 23 0 → m ≡ answer_of f o asked
-  unfolding answer_of
-  answer_many a q = rw (lt-leb _ _ a, q)
+  pub map_late : {m : Mapping} → t.count ≤ most → t.size.0 ≤ o → m ≡ ended 0 → m ≡ map_of t o asked
+  unfolding map_of
+  map_late a b q = rw (le-leb _ _ a, le-leb _ _ b, q)
 
-  pub answer_late : {z : ℕ} → f.heading.count ≤ most → z ≡ f.heading.size.0 → z ≤ o → m ≡ ended 0 → m ≡ answer_of f o asked
-  unfolding answer_of
-  answer_late a k b q = rw (le-leb _ _ a, ← k, le-leb _ _ b, q)
+  module _ {h : Hit} (e : h ≡ hit_of (search_of t o)) where
+    map_hit : t.count ≤ most → o < t.size.0 → by_row t o asked h.row h.looked ≡ map_of t o asked
+    unfolding map_of
+    map_hit a b = rw (le-leb _ _ a, lt-leb _ _ b, e) (in_row_is t o asked (search_of t o))
 
-  pub answer_found : {z left run : ℕ} → f.heading.count ≤ most → z ≡ f.heading.size.0 → o < z → f.hit.found ≡ true → left ≡ min (z - o) f.left → run ≡ min asked left → m ≡ sourced f.source f.hit.row f.within run f.hit.looked → m ≡ answer_of f o asked
-  unfolding answer_of
-  answer_found a k b c d e q = rw (le-leb _ _ a, ← k, lt-leb _ _ b, c, ← d, ← e, q)
+    pub map_none : {m : Mapping} → t.count ≤ most → o < t.size.0 → h.row ≡ None → m ≡ ended h.looked → m ≡ map_of t o asked
+    map_none a b n q = q ∙ ap (λ (z : Option ℕ). by_row t o asked z h.looked) (sym n) ∙ map_hit a b
 
-  pub answer_none : {z : ℕ} → f.heading.count ≤ most → z ≡ f.heading.size.0 → o < z → f.hit.found ≡ false → m ≡ ended f.hit.looked → m ≡ answer_of f o asked
-  unfolding answer_of
-  answer_none a k b c q = rw (le-leb _ _ a, ← k, lt-leb _ _ b, c, q)
-
-pub ruleset answers = (answer_many, answer_late, answer_found, answer_none, rules)
-
-module _ (r : Row) (lo i hi o k : ℕ) {n : Next} where
-  pub next_after : {e : ℕ} → e ≡ r.end.0 → e ≤ o → n ≡ window true (i + 1) hi i k → n ≡ next_of r lo i hi o k
-  unfolding next_of
-  next_after k l q = let h : r.end.0 ≤ o = omega arith in rw (le-leb _ _ h, holds_late r o h, q)
-
-  pub next_before : {s e : ℕ} → e ≡ r.end.0 → o < e → s ≡ r.start.0 → n ≡ window (ltb o s) lo i i k → n ≡ next_of r lo i hi o k
-  unfolding next_of
-  next_before k l m q = let h : o < r.end.0 = omega arith in rw (lt-leb _ _ h, ← holds_early r o h, ← m, q)
-
-pub ruleset nexts = (next_after, next_before, rules)
+    module _ {i : ℕ} (f : h.row ≡ Some i) where
+      pub map_row : {start end run : ℕ} {m : Mapping} → t.count ≤ most → o < t.size.0 → start ≡ (get_or t.rows i no_row).start.0 → end ≡ (get_or t.rows i no_row).end.0
+          → run ≡ min asked (min (t.size.0 - o) (end - o)) → m ≡ sourced (get_or t.rows i no_row).source i (o - start) run h.looked → m ≡ map_of t o asked
+      map_row a b s z r q = rw (s, r, z) at q ∙ ap (λ (z : Option ℕ). by_row t o asked z h.looked) (sym f) ∙ map_hit a b

@@ -1,7 +1,9 @@
 -- What every mapping keeps to: its run is at most the length asked and at most what the disk has from the offset on, since it is the least of them, and it looks at no more rows than there are, since a look leaves a narrower window; and a piece has at least one byte, since its row holds the offset.
 -- Assumes nothing.
-use Prim.Native.Nat.{ℕ, zero, suc, ◌+◌, ◌-◌, ◌<◌, ◌≤◌, ◌^◌, min}
+use Rattle.std.specs.Prelude.{Err, Ok, Result}
+use Prim.Native.Nat.{ℕ, zero, suc, ◌+◌, ◌-◌, ◌<◌, ◌≤◌, min}
 use native.Mathlib.Omega.{arith}
+use mathlib.Core.Path.{◌≡◌}
 use mathlib.Core.List.{List}
 use lib.Dec.{ltb, leb}
 use lib.ListN.{get_or}
@@ -13,13 +15,13 @@ use Rattle.tables.specs.declared.table.Row.{Row}
 use Rattle.tables.specs.declared.table.Source.{Source}
 use Rattle.tables.specs.declared.table.Source.TheVariants.{NoAccess, Zero, Flat}
 use Rattle.tables.specs.declared.table.Table.{Table}
-use Rattle.tables.specs.declared.table.ShallowMapping.{ShallowMapping}
-use Rattle.tables.specs.declared.table.ShallowMapping.TheVariants.{Eof, Zero as Zeros, Raw, Refused}
+use Rattle.tables.specs.declared.table.ShallowMapping.TheVariants.{Eof, Zero as Zeros, Raw}
 use Rattle.tables.specs.declared.table.Mapping.{Mapping}
-use Rattle.maps.specs.declared.stepping.Stand.{Stand}
+use Rattle.tables.specs.declared.table.ShallowMapping.{ShallowMapping}
+use Rattle.lines.specs.declared.record.Fault.{Fault}
+use Rattle.lines.specs.declared.record.Fault.TheVariants.{CountTooLarge}
 use Rattle.tables.specs.Build.{no_row}
 use Rattle.maps.specs.Map.{Search, found, nowhere, looked, holds, middle, decide, halve, sourced, ended, refused, in_row, search_of, map_of}
-use Rattle.maps.specs.inside.Stepping.{Meant, Ready}
 use Rattle.maps.proofs.Halves.{pick_elim, Finds, halve_finds}
 
 -- at most n rows were looked at
@@ -63,7 +65,7 @@ row_modest t n o asked (nowhere k) h = (omega arith, (omega arith, h))
 pub map_modest : (t : Table) (o asked : ℕ) → Modest most t.size.0 o asked (map_of t o asked)
 unfolding map_of search_of
 map_modest t o asked =
-    pick_elim (Modest most t.size.0 o asked) (leb t.count most) (pick (leb t.size.0 o) (ended 0) (in_row t o asked (halve t.count t.rows 0 t.count o))) (refused 23 0)
+    pick_elim (Modest most t.size.0 o asked) (leb t.count most) (pick (leb t.size.0 o) (ended 0) (in_row t o asked (halve t.count t.rows 0 t.count o))) (refused CountTooLarge 0)
     (λ e. pick_elim (Modest most t.size.0 o asked) (leb t.size.0 o) (ended 0) (in_row t o asked (halve t.count t.rows 0 t.count o)) (λ _. (omega arith, (omega arith, omega arith)))
     (λ _. wider (in_row t o asked (halve t.count t.rows 0 t.count o)) (leb-true t.count most e) (row_modest t t.count o asked (halve t.count t.rows 0 t.count o) (halve_looks t.count t.rows 0 t.count o))))
     (λ _. (omega arith, (omega arith, omega arith)))
@@ -71,18 +73,15 @@ map_modest t o asked =
     wider : (m : Mapping) → t.count ≤ most → Modest t.count t.size.0 o asked m → Modest most t.size.0 o asked m
     wider m h g = (g.0, (g.1.0, omega (arith, h, g.1.1)))
 
--- so a step's numbers are numbers of 64 bits
-pub map_meant : (t : Table) (s : Stand) → s.pos < 2 ^ 64 → Ready t s → Meant s (map_of t s.pos s.left)
-map_meant t s f r =
-    let g = map_modest t s.pos s.left in
-    (g.0, (omega (arith, g.1.0, f, r.0), omega (arith, g.1.1, r.1)))
+pub keeps_modest : (t : Table) (o asked : ℕ) {m : Mapping} → m ≡ map_of t o asked → Modest most t.size.0 o asked m
+keeps_modest t o asked e = rw e (map_modest t o asked)
 
 -- a piece has at least one byte
-abbrev pub Some : ShallowMapping → ℕ → Type 0
-Some Eof run = Unit {0}
-Some (Zeros i) run = 0 < run
-Some (Raw i at w) run = 0 < run
-Some (Refused number) run = Unit {0}
+abbrev pub Some : Result ShallowMapping Fault → ℕ → Type 0
+Some (Ok Eof) run = Unit {0}
+Some (Ok (Zeros i)) run = 0 < run
+Some (Ok (Raw i at w)) run = 0 < run
+Some (Err number) run = Unit {0}
 
 sourced_some : (s : Source) (i within run k : ℕ) → 0 < run → Some (sourced s i within run k).mapping (sourced s i within run k).run
 unfolding sourced
@@ -105,7 +104,7 @@ pub map_some : (t : Table) (o asked : ℕ) → 0 < asked → Some (map_of t o as
 unfolding map_of search_of
 map_some t o asked a =
     let s : Search = halve t.count t.rows 0 t.count o in
-    pick_elim (λ (m : Mapping). Some m.mapping m.run) (leb t.count most) (pick (leb t.size.0 o) (ended 0) (in_row t o asked s)) (refused 23 0)
+    pick_elim (λ (m : Mapping). Some m.mapping m.run) (leb t.count most) (pick (leb t.size.0 o) (ended 0) (in_row t o asked s)) (refused CountTooLarge 0)
     (λ _. pick_elim (λ (m : Mapping). Some m.mapping m.run) (leb t.size.0 o) (ended 0) (in_row t o asked s) (λ _. tt)
     (λ e. row_some t o asked t.count s (halve_finds t.count t.rows 0 t.count o t.count (omega arith)) a (leb-false t.size.0 o e)))
     (λ _. tt)

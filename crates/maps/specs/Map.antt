@@ -1,5 +1,5 @@
 -- Mapping a disk offset: the row is found by halving, and every row looked at is counted.
-use Rattle.std.specs.Prelude.{ℕ, zero, suc, ◌+◌, ◌-◌, ◌/◌, min, List, Bool, true, false, get_or, leb, ltb}
+use Rattle.std.specs.Prelude.{ℕ, zero, suc, ◌+◌, ◌-◌, ◌/◌, min, List, Bool, true, false, get_or, leb, ltb, Err, Ok}
 use Rattle.text.specs.Ranges.{pick}
 use Rattle.text.specs.Sector.{largest}
 use Rattle.lines.specs.Record.{most}
@@ -9,8 +9,10 @@ use Rattle.tables.specs.declared.table.Source.{Source}
 use Rattle.tables.specs.declared.table.Source.TheVariants.{NoAccess as Locked, Zero as Zeros, Flat as File}
 use Rattle.tables.specs.declared.table.Row.{Row}
 use Rattle.tables.specs.declared.table.Table.{Table}
-use Rattle.tables.specs.declared.table.ShallowMapping.TheVariants.{Eof, Zero, Raw, Refused}
+use Rattle.tables.specs.declared.table.ShallowMapping.TheVariants.{Eof, Zero, Raw}
 use Rattle.tables.specs.declared.table.Mapping.{Mapping}
+use Rattle.lines.specs.declared.record.Fault.TheVariants.{Inaccessible, OffsetTooLarge, CountTooLarge}
+use Rattle.lines.specs.declared.record.Fault.{Fault}
 use Rattle.tables.specs.Build.{no_row}
 
 -- the row that was found, or none, and how many rows were looked at
@@ -49,18 +51,18 @@ writable RdOnly = false
 
 -- the end: run 0
 abbrev pub ended : ℕ → Mapping
-ended n = record { mapping = Eof; run = 0; looked = n }
+ended n = record { mapping = (Ok Eof); run = 0; looked = n }
 
 -- a refusal: run 0
-abbrev pub refused : ℕ → ℕ → Mapping
-refused number n = record { mapping = Refused number; run = 0; looked = n }
+abbrev pub refused : Fault → ℕ → Mapping
+refused f n = record { mapping = Err f; run = 0; looked = n }
 
 -- row i, whose source has a run of bytes at a place within the row
 unfoldable pub sourced : Source → ℕ → ℕ → ℕ → ℕ → Mapping
-sourced Locked i within run n = refused 21 n
-sourced (Zeros a) i within run n = record { mapping = Zero i; run = run; looked = n }
+sourced Locked i within run n = refused Inaccessible n
+sourced (Zeros a) i within run n = record { mapping = Ok (Zero i); run = run; looked = n }
 sourced (File a start name) i within run n =
-    pick (leb (start.0 + within) largest) (record { mapping = Raw i (start.0 + within) (writable a); run = run; looked = n }) (refused 22 n)
+    pick (leb (start.0 + within) largest) (record { mapping = Ok (Raw i (start.0 + within) (writable a)); run = run; looked = n }) (refused OffsetTooLarge n)
 
 -- in the row that was found. The run is the least of length asked, size less offset, and row end less offset
 unfoldable pub in_row : Table → ℕ → ℕ → Search → Mapping
@@ -78,4 +80,4 @@ unfoldable pub map_of : Table → ℕ → ℕ → Mapping
 map_of t o asked =
     pick (leb t.count most)
     (pick (leb t.size.0 o) (ended 0) (in_row t o asked (search_of t o)))
-    (refused 23 0)
+    (refused CountTooLarge 0)

@@ -1,2 +1,4 @@
 pub mod Line
+pub mod Adding
 pub mod Opening
+pub mod inside

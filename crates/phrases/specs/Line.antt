@@ -9,6 +9,7 @@ use Rattle.tables.specs.Build.{no_row}
 use Rattle.tables.specs.declared.table.Source.{Source}
 use Rattle.tables.specs.declared.table.Source.TheVariants.{NoAccess, Zero, Flat}
 use Rattle.tables.specs.declared.table.Row.{Row}
+use Rattle.lines.specs.Fault.{refusal_number}
 use Rattle.puts.specs.Decimal.{decimal_of}
 
 -- a word with a space after it
@@ -63,4 +64,4 @@ source_at rows i = (get_or rows i no_row).source
 
 -- a refusal: its number and its second number
 unfoldable pub refused_line : Refusal → List ℕ
-refused_line r = line (ascii "refused" ∷ decimal_of r.number ∷ decimal_of r.second ∷ [])
+refused_line r = line (ascii "refused" ∷ decimal_of (refusal_number r.fault) ∷ decimal_of r.second ∷ [])

@@ -1,18 +1,23 @@
 -- Reading a descriptor and building its table: refused where either is.
-use Rattle.std.specs.Prelude.{ℕ, List}
-use Rattle.descriptor.specs.Read.{read_of}
-use Rattle.descriptor.specs.declared.read.Read.{Read}
-use Rattle.lines.specs.declared.record.Verdict.{Verdict}
-use Rattle.lines.specs.declared.record.Verdict.TheVariants.{Sound, Refused}
-use Rattle.tables.specs.Build.{build_of}
-use Rattle.tables.specs.declared.table.Built.{Built}
+use Rattle.std.specs.Prelude.{ℕ, List, Result, Ok, Err}
+use Rattle.descriptor.specs.Read.{Read, read_of}
+use Rattle.lines.specs.declared.record.Refusal.{Refusal}
+use Rattle.tables.specs.Build.{Built, build_of}
+use Rattle.tables.specs.Into.{build_into}
+use Rattle.tables.specs.declared.table.Table.{Table}
 use Rattle.phrases.specs.Line.{refused_line}
-use Rattle.phrases.specs.declared.opening.Opened.{Opened}
+use Rattle.lines.specs.Record.{Verdict}
+
+-- a descriptor that was read and built: its version and its table, or why it is refused
+pub record Opened : Type 0 where
+  pub verdict : Verdict
+  pub version : ℕ
+  pub table : Table
 
 -- the first of two refusals
 abbrev pub first : Verdict → Verdict → Verdict
-first Sound v = v
-first (Refused r) v = Refused r
+first (Ok tt) v = v
+first (Err r) v = Err r
 
 -- a record that was read, and its table
 abbrev pub open_by : Read → Built → Opened
@@ -22,7 +27,23 @@ open_by r b = record { verdict = first r.verdict b.verdict; version = r.descript
 unfoldable pub open_of : List ℕ → Opened
 open_of d = open_by (read_of d) (build_of (read_of d).descriptor)
 
+-- what opening answers: the version, or the refusal
+abbrev pub version_or : Verdict → ℕ → Result ℕ Refusal
+version_or (Ok tt) version = Ok version
+version_or (Err r) version = Err r
+
+abbrev pub opened : Opened → Result ℕ Refusal
+opened o = version_or o.verdict o.version
+
+-- the lent table after opening: as it was where the read is refused, and otherwise what the build leaves in it
+abbrev pub if_read : Verdict → Table → Table → Table
+if_read (Ok tt) built t = built
+if_read (Err r) built t = t
+
+unfoldable pub open_into : List ℕ → Table → Table
+open_into d t = if_read (read_of d).verdict (build_into (read_of d).descriptor t) t
+
 -- a refused read or build writes only the refusal
 abbrev pub unless : Verdict → List ℕ → List ℕ
-unless Sound text = text
-unless (Refused r) text = refused_line r
+unless (Ok tt) text = text
+unless (Err r) text = refused_line r

@@ -1,131 +1,124 @@
 // Lines of words, with a space after each but the last.
-ghost use Rattle.std.specs.Prelude.{◌≡◌, [], ◌∷◌};
-ghost use Rattle.puts.specs.Put.{Put};
+ghost use Rattle.std.specs.Prelude.{◌≡◌, take};
 ghost use Rattle.puts.specs.Decimal.{decimal_of};
-ghost use Rattle.phrases.specs.Line.{spaced, ended, field, line, refused_line, name_in, name_of, access_word, mode_word, source_at};
+ghost use Rattle.phrases.specs.Line.{refused_line, name_in, name_of, access_word, mode_word, source_at};
+ghost use Rattle.phrases.specs.Adding.{closed, closed_field, Adds};
+ghost use Rattle.phrases.specs.inside.Ending.{end_byte};
 
-use lines::record::{MOST, Refusal, Text, VmdkAccessType};
+use lines::record::{Refusal, Text, VmdkAccessType};
 use puts::put::{put, put_byte, put_decimal};
-use tables::table::{Row, Source};
+use tables::table::{Row, Source, Table};
 
-// Puts a word and a space.
-pub fn word(out: &mut [u8], at: usize, w: &[u8]) -> usize
-    ensures { Put out.old at (spaced w.now) result out.new }
-{
-    let next = put(out, at, w);
-    put_byte(out, next, 0x20)
+// What ends with a word: no more than the word, by a space, or its line, by 0A.
+#[derive(Clone, Copy)]
+pub enum End {
+    Word,
+    Line,
 }
 
-// Puts a number and a space.
-pub fn number(out: &mut [u8], at: usize, n: u64) -> usize
-    ensures { Put out.old at (spaced (decimal_of n)) result out.new }
-{
-    let next = put_decimal(out, at, n);
-    put_byte(out, next, 0x20)
+impl End {
+    // The byte that says it.
+    fn byte(self) -> u8
+        ensures { result ≡ end_byte self }
+    {
+        match self {
+            End::Word => 0x20,
+            End::Line => 0x0A,
+        }
+    }
 }
 
-// Puts a line's last word.
-pub fn last_word(out: &mut [u8], at: usize, w: &[u8]) -> usize
-    ensures { Put out.old at (ended w.now) result out.new }
-{
-    let next = put(out, at, w);
-    put_byte(out, next, 0x0A)
+// An answer that is being written: the buffer that the caller lends, and the place after what was put.
+#[derive(Drop)]
+pub struct Answer<'a> {
+    pub out: &'a mut [u8],
+    pub at: usize,
 }
 
-// Puts a line's last number.
-pub(crate) fn last_number(out: &mut [u8], at: usize, n: u64) -> usize
-    ensures { Put out.old at (ended (decimal_of n)) result out.new }
-{
-    let next = put_decimal(out, at, n);
-    put_byte(out, next, 0x0A)
-}
+impl<'a> Answer<'a> {
+    // Puts a word and its end.
+    pub fn word(&mut self, w: &[u8], end: End)
+        ensures { Adds self.old (closed end w.now) self.new }
+    {
+        let next = put(self.out, self.at, w);
+        self.at = put_byte(self.out, next, end.byte());
+    }
 
-// Puts a word and a number, each with a space after it.
-pub fn field(out: &mut [u8], at: usize, w: &[u8], n: u64) -> usize
-    ensures { Put out.old at (field w.now n) result out.new }
-{
-    let next = word(out, at, w);
-    number(out, next, n)
-}
+    // Puts a number and its end.
+    pub fn number(&mut self, n: u64, end: End)
+        ensures { Adds self.old (closed end (decimal_of n)) self.new }
+    {
+        let next = put_decimal(self.out, self.at, n);
+        self.at = put_byte(self.out, next, end.byte());
+    }
 
-// Puts a line's last word and number.
-pub fn last_field(out: &mut [u8], at: usize, w: &[u8], n: u64) -> usize
-    ensures { Put out.old at (line (w.now ∷ decimal_of n ∷ [])) result out.new }
-{
-    let next = word(out, at, w);
-    last_number(out, next, n)
+    // Puts a word, and then a number and its end.
+    pub fn field(&mut self, w: &[u8], n: u64, end: End)
+        ensures { Adds self.old (closed_field end w.now n) self.new }
+    {
+        self.word(w, End::Word);
+        self.number(n, end);
+    }
+
+    // Puts the line of a refusal.
+    pub fn refused_line(&mut self, x: Refusal)
+        ensures { Adds self.old (refused_line x) self.new }
+    {
+        self.field(b"refused", x.fault.number() as u64, End::Word);
+        self.number(x.second as u64, End::Line);
+    }
 }
 
 // The bytes of a text of the descriptor, as far as they are there.
-fn name(d: &[u8], t: Text) -> &[u8]
+pub fn name(d: &[u8], t: Text) -> &[u8]
     ensures { result.now ≡ name_in d.now t }
 {
-    let place = t.place;
-    let length = t.length;
-    if d.len() <= place {
-        return &d[..0];
-    }
-    if d.len() - place <= length {
-        return &d[place..];
-    }
-    &d[place..place + length]
+    let rest = &d[t.place.min(d.len())..];
+    &rest[..t.length.min(rest.len())]
 }
 
-// Puts a name at a line's end.
-pub fn last_name(d: &[u8], t: Text, out: &mut [u8], at: usize) -> usize
-    ensures { Put out.old at (ended (name_in d.now t)) result out.new }
-{
-    let w = name(d, t);
-    last_word(out, at, w)
-}
-
-// Puts how an extent may be accessed, and a space.
-pub fn access(a: VmdkAccessType, out: &mut [u8], at: usize) -> usize
-    ensures { Put out.old at (spaced (access_word a)) result out.new }
+// How an extent may be accessed, as a word.
+pub fn access(a: VmdkAccessType) -> &'static [u8]
+    ensures { result.now ≡ access_word a }
 {
     match a {
-        VmdkAccessType::RdOnly => word(out, at, b"RDONLY"),
-        VmdkAccessType::RW => word(out, at, b"RW"),
+        VmdkAccessType::RdOnly => b"RDONLY",
+        VmdkAccessType::RW => b"RW",
     }
 }
 
-// Puts how a row's bytes may be accessed, by whether they may be written, and a space.
-pub fn mode(writable: bool, out: &mut [u8], at: usize) -> usize
-    ensures { Put out.old at (spaced (mode_word writable)) result out.new }
+// How a row's bytes may be accessed, as a word, by whether they may be written.
+pub fn mode(writable: bool) -> &'static [u8]
+    ensures { result.now ≡ mode_word writable }
 {
     if writable {
-        return word(out, at, b"RW");
+        access(VmdkAccessType::RW)
+    } else {
+        access(VmdkAccessType::RdOnly)
     }
-    word(out, at, b"RDONLY")
 }
 
-// Puts the name of a source's file at a line's end; zeros and no access have none.
-pub fn last_source_name(d: &[u8], s: Source, out: &mut [u8], at: usize) -> usize
-    ensures { Put out.old at (ended (name_of d.now s)) result out.new }
+// The name of a source's file; zeros and no access have none.
+pub fn source_name(d: &[u8], s: Source) -> &[u8]
+    ensures { result.now ≡ name_of d.now s }
 {
     match s {
-        Source::NoAccess => last_word(out, at, b""),
-        Source::Zero(_) => last_word(out, at, b""),
-        Source::Flat(_, _, t) => last_name(d, t, out, at),
+        Source::NoAccess => b"",
+        Source::Zero(_) => b"",
+        Source::Flat(_, _, t) => name(d, t),
     }
 }
 
 // The source of a row; past the rows there is no access.
-pub fn row_source(rows: [Row; MOST], i: usize) -> Source
-    ensures { result ≡ source_at rows i }
+pub fn row_source(rows: &[Row], i: usize) -> Source
+    ensures { result ≡ source_at rows.now i }
 {
-    if i < MOST {
-        let row = rows[i];
-        let s = row.source;
-        return s;
-    }
-    Source::NoAccess
+    rows.get(i).map_or(Source::NoAccess, |row| row.source)
 }
 
-// Puts the line of a refusal.
-pub fn refused_line(x: Refusal, out: &mut [u8], at: usize) -> usize
-    ensures { Put out.old at (refused_line x) result out.new }
+// The rows that a table counts; of a hand-made table that counts more than it has, all.
+pub fn counted_rows(t: &Table) -> &[Row]
+    ensures { result.now ≡ take t.now.count t.now.rows }
 {
-    let at = field(out, at, b"refused", x.number as u64);
-    last_number(out, at, x.second as u64)
+    t.rows.get(..t.count).unwrap_or(&t.rows)
 }

@@ -1,43 +1,22 @@
 // Reading a descriptor and building its table.
-ghost use Rattle.std.specs.Prelude.{◌≡◌};
-ghost use Rattle.phrases.specs.Opening.{open_of};
+ghost use Rattle.std.specs.Prelude.{◌≡◌, OnOk};
+ghost use Rattle.tables.specs.Build.{no_table};
+ghost use Rattle.phrases.specs.Opening.{opened, open_of, open_into};
 
-use by_value::opened;
-use lines::record::Verdict;
+use descriptor::{empty, read};
+use lines::record::Refusal;
+use tables::build;
 use tables::table::Table;
 
-// A descriptor that was read and built: its version and its table, or why it is refused.
-#[derive(Clone, Copy)]
-pub struct Opened {
-    pub verdict: Verdict,
-    pub version: u32,
-    pub table: Table,
-}
-
-// Reads a descriptor and builds its table.
-pub fn open(d: &[u8]) -> Opened
-    ensures { result ≡ open_of d.now }
+// Reads a descriptor and builds its table, in one that is lent: the descriptor's version, or the first refusal of the two. A refused read
+// leaves the table as it was, and a refused build no row that counts; an empty table becomes the one that is built.
+pub fn open(d: &[u8], into: &mut Table) -> Result<u32, Refusal>
+    ensures version { result ≡ opened (open_of d.now) }
+    ensures left { into.new ≡ open_into d.now into.old }
+    ensures made { OnOk result (into.old ≡ no_table → into.new ≡ (open_of d.now).table) }
 {
-    let opening = opened(d);
-    let verdict = opening.read;
-    let version = opening.desc.version;
-    let table = opening.table;
-    match verdict {
-        Verdict::Sound => {
-            let verdict = opening.built;
-            Opened {
-                verdict,
-                version,
-                table,
-            }
-        }
-        Verdict::Refused(r) => {
-            let verdict = Verdict::Refused(r);
-            Opened {
-                verdict,
-                version,
-                table,
-            }
-        }
-    }
+    let mut record = empty::no_record();
+    read::parse_descriptor_file(d, &mut record)?;
+    build::build(&record, into)?;
+    Ok(record.desc.version)
 }

@@ -1,66 +1,46 @@
 // Probing: whether some bytes may be a descriptor.
 ghost use Rattle.std.specs.Prelude.{◌≡◌, ◌≤◌, ◌<◌, length};
-ghost use Rattle.text.specs.declared.find.Place.TheVariants.{Here};
 ghost use Rattle.probing.specs.Probe.{verdict_of, probe_key, probe_line, probe_of};
 ghost use Rattle.probing.specs.inside.Places.{probe_at};
 
-use text::find::{Place, find_byte, is, line_end, starts_with};
-use text::number::{Num, number};
-use text::words::{Trimmed, inner, trim};
-
-// What probing finds on a line: it passes it over, or answers.
-#[derive(Clone, Copy)]
-pub enum Probed {
-    Pass,
-    Answer(bool),
-}
+use text::find::{find_byte, is, line_end, starts_with};
+use text::number::number;
+use text::words::{inner, trim};
 
 // Whether a number is a supported version.
-fn supported(n: Num) -> bool
+fn supported(n: Option<u64>) -> bool
     ensures { result ≡ verdict_of n }
 {
-    match n {
-        Num::Value(v) => {
-            if v < 1 {
-                return false;
-            }
-            v <= 3
-        }
-        Num::Bad => false,
-    }
+    matches!(n, Some(1..=3))
 }
 
-// A line with its first `=` at i.
-fn probe_key(l: &[u8], i: usize) -> Probed
+// What probing answers to a line with its first `=` at i, if the line's key is `version`.
+#[tactic(auto, using(crate::proofs::Probing::key_take, text::proofs::Parts::part_rest), unfolding(crate::specs::Probe::probe_key))]
+fn probe_key(l: &[u8], i: usize) -> Option<bool>
     requires { i < length l.now }
-    ensures { result ≡ probe_key l.now (Here i) }
+    ensures { result ≡ probe_key l.now (Some i) }
 {
     let key = inner(&l[..i]);
     if is(key, b"version") {
         let value = inner(&l[i + 1..]);
-        return Probed::Answer(supported(number(value, 4294967295)));
+        return Some(supported(number(value, u32::MAX as u64)));
     }
-    Probed::Pass
+    None
 }
 
-// What probing finds on a line.
-fn probe_line(l: &[u8]) -> Probed
+// What probing answers to a line, or nothing where it passes the line over.
+#[tactic(auto, using(crate::proofs::Probing::found_below, crate::proofs::Probing::probe_empty), unfolding(crate::specs::Probe::probe_line, crate::specs::Probe::probe_key))]
+fn probe_line(l: &[u8]) -> Option<bool>
     ensures { result ≡ probe_line l.now }
 {
     if l.len() == 0 {
-        return Probed::Pass;
+        return None;
     }
-    let r = trim(l);
-    match r {
-        Trimmed::Wrong => Probed::Answer(false),
-        Trimmed::Range(_, _) => {
-            let p = find_byte(l, 0, 0x3D);
-            match p {
-                Place::Here(i) => probe_key(l, i),
-                Place::Nowhere => Probed::Pass,
-            }
-        }
+    if trim(l).is_none() {
+        return Some(false);
     }
+    let i = find_byte(l, 0, b'=')?;
+    probe_key(l, i)
 }
 
 // The lines one after the other: the first that answers.
@@ -71,20 +51,18 @@ fn probe_lines(d: &[u8]) -> bool
     let mut at = 0;
     loop {
         let e = line_end(d, at);
-        let p = probe_line(&d[at..e]);
-        match p {
-            Probed::Answer(b) => return b,
-            Probed::Pass => {
-                if d.len() <= e {
-                    return false;
-                }
-                at = e + 1;
-            }
+        if let Some(answer) = probe_line(&d[at..e]) {
+            return answer;
         }
+        if d.len() <= e {
+            return false;
+        }
+        at = e + 1;
     }
 }
 
 // Check that the potential descriptor file has a reasonable length, is utf8, and contains a supported `version` key. (Or has the sparse bytes.)
+#[tactic(auto, using(crate::proofs::Probing::probe_start), unfolding(crate::specs::Probe::probe_of))]
 pub fn probe(d: &[u8]) -> bool
     ensures { result ≡ probe_of d.now }
 {

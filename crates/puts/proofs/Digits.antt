@@ -1,5 +1,6 @@
 -- The digits of a number, read by the number rule, are the number: each digit counts ten times what the digits before it say.
 -- Assumes nothing.
+use Rattle.std.specs.Prelude.{Some}
 use Prim.Native.Nat.{ℕ, zero, suc, ◌+◌, ◌-◌, ◌*◌, ◌/◌, ◌%◌, ◌^◌, ◌≤◌, ◌<◌}
 use native.Mathlib.Omega.{arith}
 use native.Mathlib.Nat.{pow-zero, pow-succ', mul_assoc, mul_comm}
@@ -12,7 +13,6 @@ use borrow.Author.Tests.{ltb-true, ltb-false, le-leb}
 use lib.Dec.{ltb}
 use Rattle.text.specs.Number.{digit as is_digit, all_digits, value, number_of}
 use Rattle.text.specs.Sector.{largest}
-use Rattle.text.specs.declared.number.Num.TheVariants.{Value}
 use Rattle.text.proofs.Flat.{by_test, within_in}
 use Rattle.text.proofs.Numerals.{number_in}
 use Rattle.puts.specs.Decimal.{digit, digits_in, decimal_of}
@@ -75,7 +75,7 @@ first_in (suc k) n h f =
     let z : n / 10 ≡ 0 = first_in k (n / 10) (omega arith) g in
     absurd (omega arith))
 
-pub reads_back : (n : ℕ) → n ≤ largest → number_of largest (decimal_of n) ≡ Value n
+pub reads_back : (n : ℕ) → n ≤ largest → number_of largest (decimal_of n) ≡ Some n
 unfolding decimal_of
 reads_back n h =
     number_in largest (digits_in n n) (digits_in n n) (long_in n n, all_in n n, inl refl)

@@ -1,12 +1,12 @@
 -- What the texts mean, in the words of the rules. Each statement is proved by the law that it cites.
 -- Assumes nothing.
+use Rattle.std.specs.Prelude.{Some}
 use Prim.Native.Nat.{ℕ, ◌+◌, ◌≤◌, ◌<◌}
 use mathlib.Core.List.{List, ◌++◌}
 use mathlib.Core.Path.{◌≡◌}
 use lib.ListN.{length, get_or, take, drop}
 use Rattle.text.specs.Number.{number_of}
 use Rattle.text.specs.Sector.{largest}
-use Rattle.text.specs.declared.number.Num.TheVariants.{Value}
 use Rattle.puts.specs.Put.{pasted, after}
 use Rattle.puts.specs.Decimal.{decimal_of}
 use Rattle.puts.proofs.Puts.{pasted_length, pasted_join, pasted_whole, pasted_start, after_whole}
@@ -33,7 +33,7 @@ pub a_length_is_the_whole_answers : (x : List ℕ) (r : ℕ) → r ≡ after 0 x
 a_length_is_the_whole_answers = after_whole
 
 -- The digits of a number, read by the number rule, are the number.
-pub digits_read_back : (n : ℕ) → n ≤ largest → number_of largest (decimal_of n) ≡ Value n
+pub digits_read_back : (n : ℕ) → n ≤ largest → number_of largest (decimal_of n) ≡ Some n
 digits_read_back = reads_back
 
 -- No number but 0 begins with the digit 0.

@@ -1,123 +1,106 @@
 // One case: a descriptor and its queries.
-ghost use Rattle.std.specs.Prelude.{◌<◌};
-
 use crate::{line, out};
-use by_value::{Listing, Opening};
-use lines::record::{Verdict, VmdkDesc};
+use descriptor::empty::no_record;
+use descriptor::read::parse_descriptor_file;
+use lines::record::{Record, Verdict, VmdkDesc};
+use maps::mapping::get_mapping;
+use maps::stepping::{no_pieces, walk_in};
 use std::io;
-use tables::table::Table;
+use tables::build::{build, no_table};
+use tables::table::{Piece, Table, Walked};
 
-// A byte as a number.
-fn wide(x: u8) -> u64
-    ensures { result < 256 }
-{
-    x as u64
+// A query, with the first number as the case file has it: 0 for a map, a walk otherwise.
+#[derive(Drop)]
+struct Query {
+    what: u8,
+    offset: u64,
+    length: u64,
+    places: u16,
 }
 
-// The byte at a place, or 0 past the end.
-pub(crate) fn byte(b: &[u8], at: usize) -> u64
-    ensures { result < 256 }
-{
-    if at < b.len() {
-        return wide(b[at]);
-    }
-    0
-}
+// How many bytes of a case file a query has.
+pub(crate) const QUERY: usize = 19;
 
-// The byte so many places after a place, or 0 past the end.
-fn next(b: &[u8], at: usize, more: usize) -> u64
-    ensures { result < 256 }
-{
-    byte(b, std::num::wrapping_add_usize(at, more))
-}
-
-// The number of two bytes so many places after a place, the lowest first.
-fn quarter(b: &[u8], at: usize, more: usize) -> u64
-    ensures { result < 65536 }
-{
-    let from = std::num::wrapping_add_usize(at, more);
-    byte(b, from) + next(b, from, 1) * 256
-}
-
-// The number of four bytes from a place, the lowest first.
-pub(crate) fn half(b: &[u8], at: usize) -> u64
-    ensures { result < 4294967296 }
-{
-    let low = byte(b, at) + next(b, at, 1) * 256;
-    let high = next(b, at, 2) + next(b, at, 3) * 256;
-    low + high * 65536
-}
-
-// The number of eight bytes so many places after a place, the lowest first.
-fn word(b: &[u8], at: usize, more: usize) -> u64 {
-    let from = std::num::wrapping_add_usize(at, more);
-    half(b, from) + half(b, std::num::wrapping_add_usize(from, 4)) * 4294967296
+// The query that stands at the start of some bytes.
+fn read_query(b: &[u8]) -> Option<Query> {
+    let (what, b) = b.split_first()?;
+    let (offset, b) = b.split_first_chunk()?;
+    let (length, b) = b.split_first_chunk()?;
+    Some(Query {
+        what: *what,
+        offset: u64::from_le_bytes(*offset),
+        length: u64::from_le_bytes(*length),
+        places: u16::from_le_bytes(*b.first_chunk()?),
+    })
 }
 
 // The values of a descriptor and its table, which are three lines, and the rows.
 fn head(rt: &impl Print, c: &[u8], v: VmdkDesc, t: &Table) -> io::Result<()> {
-    let n = std::num::wrapping_add_usize(t.count, 3);
-    for i in 0..n {
-        out::line(rt, c, line::head(v, t, i))?;
+    for l in line::head(v, t) {
+        out::line(rt, c, l)?;
+    }
+    for row in t.rows.iter().take(t.count) {
+        out::line(rt, c, line::row(row))?;
     }
     Ok(())
 }
 
 // The pieces of a walk and its end.
-fn walk(rt: &impl Print, c: &[u8], t: &Table, l: &Listing) -> io::Result<()> {
-    let n = std::num::wrapping_add_usize(l.walked.count, 1);
-    for i in 0..n {
-        out::line(rt, c, line::walk(t, l, i))?;
+fn walk(rt: &impl Print, c: &[u8], t: &Table, w: Walked, pieces: &[Piece]) -> io::Result<()> {
+    for p in pieces.iter().take(w.count) {
+        out::line(rt, c, line::piece(t, *p))?;
     }
-    Ok(())
+    out::line(rt, c, line::end(w))
 }
 
-// The answer to a query: a map where the first number is 0, a walk otherwise.
-fn reply(
-    rt: &impl Print,
-    c: &[u8],
-    t: &Table,
-    what: u64,
-    offset: u64,
-    length: u64,
-    places: u64,
-) -> io::Result<()> {
+// The answer to a query.
+fn reply(rt: &impl Print, c: &[u8], t: &Table, q: Query) -> io::Result<()> {
+    let Query {
+        what,
+        offset,
+        length,
+        places,
+    } = q;
     if what == 0 {
-        let m = by_value::mapped(*t, offset, length);
+        let m = get_mapping(t, offset, length);
         return out::line(rt, c, line::mapping(t, m));
     }
-    let l = by_value::listed(*t, places as usize, offset, length);
-    walk(rt, c, t, &l)
+    let mut pieces = no_pieces();
+    let w = walk_in(t, &mut pieces, places as usize, offset, length);
+    walk(rt, c, t, w, &pieces)
 }
 
 // The answers to the queries, one after the other; their number is at a place, and they stand after it.
 fn queries(rt: &impl Print, c: &[u8], t: &Table, at: usize) -> io::Result<()> {
-    let n = byte(c, at);
-    let mut from = std::num::wrapping_add_usize(at, 1);
-    for _ in 0..n {
-        reply(
-            rt,
-            c,
-            t,
-            byte(c, from),
-            word(c, from, 1),
-            word(c, from, 9),
-            quarter(c, from, 17),
-        )?;
-        from = std::num::wrapping_add_usize(from, 19);
+    let Some([n, rest @ ..]) = c.get(at..) else {
+        return Ok(());
+    };
+    for q in rest
+        .chunks_exact(QUERY)
+        .take(usize::from(*n))
+        .filter_map(read_query)
+    {
+        reply(rt, c, t, q)?;
     }
     Ok(())
 }
 
-// The answers of case k, whose first n bytes were read.
-fn built(rt: &impl Print, k: u64, c: &[u8], n: usize, probed: bool, o: Opening) -> io::Result<()> {
-    let v = o.built;
+// The answers of case k, whose first n bytes were read into a record.
+fn built(
+    rt: &impl Print,
+    k: u64,
+    c: &[u8],
+    n: usize,
+    probed: bool,
+    record: &Record,
+) -> io::Result<()> {
+    let mut t = no_table();
+    let v = build(record, &mut t);
     out::line(rt, c, line::case(k, probed, v))?;
     match v {
-        Verdict::Refused(_) => Ok(()),
-        Verdict::Sound => {
-            let t = o.table;
-            head(rt, c, o.desc, &t)?;
+        Err(_) => Ok(()),
+        Ok(()) => {
+            head(rt, c, record.desc, &t)?;
             queries(rt, c, &t, n)
         }
     }
@@ -127,10 +110,10 @@ fn built(rt: &impl Print, k: u64, c: &[u8], n: usize, probed: bool, o: Opening) 
 pub(crate) fn answer(rt: &impl Print, k: u64, c: &[u8], n: usize) -> io::Result<()> {
     let d = out::front(c, n);
     let probed = probing::probe::probe(d);
-    let o = by_value::opened(d);
-    let v = o.read;
+    let mut record = no_record();
+    let v = parse_descriptor_file(d, &mut record);
     match v {
-        Verdict::Refused(_) => out::line(rt, c, line::case(k, probed, v)),
-        Verdict::Sound => built(rt, k, c, n, probed, o),
+        Err(_) => out::line(rt, c, line::case(k, probed, v)),
+        Ok(()) => built(rt, k, c, n, probed, &record),
     }
 }

@@ -18,39 +18,38 @@ fn space() -> [u8; 2102000]
     [0; 2102000]
 }
 
-// Reads n bytes to a place, or says that they are not there.
-fn read_some(from: &mut impl Read, into: &mut [u8], at: usize, n: usize) -> io::Result<bool> {
-    if into.len() < at {
+// Fills a part of the room; false where there is no such part, or the input ends before it is full.
+fn fill(from: &mut impl Read, part: Option<&mut [u8]>) -> io::Result<bool> {
+    let Some(part) = part else {
         return Ok(false);
-    }
-    if into.len() - at < n {
-        return Ok(false);
-    }
-    let e = at + n;
-    let got = read_full(from, &mut into[at..e])?;
-    Ok(n <= got)
+    };
+    let n = part.len();
+    Ok(read_full(from, part)? == n)
 }
 
-// Reads the next case and answers how many bytes its descriptor has, or none where there is no case: then the second read finds none too.
+// Reads the next case and answers how many bytes its descriptor has, or none where there is no whole case.
 fn read_case(from: &mut impl Read, c: &mut [u8]) -> io::Result<Option<usize>> {
-    read_some(from, c, 0, 4)?;
-    let n = case::half(c, 0) as usize;
-    let after = n + 1;
-    let told = read_some(from, c, 0, after)?;
-    let asked = case::byte(c, n) as usize * 19;
-    if told & read_some(from, c, after, asked)? {
-        return Ok(Some(n));
+    let mut length = [0; 4];
+    if !fill(from, Some(&mut length))? {
+        return Ok(None);
     }
-    Ok(None)
+    let n = u32::from_le_bytes(length) as usize;
+    if !fill(from, c.get_mut(..=n))? {
+        return Ok(None);
+    }
+    let asked = c.get(n).map_or(0, |q| usize::from(*q) * case::QUERY);
+    let after = n + 1;
+    let told = fill(from, c.get_mut(after..after + asked))?;
+    Ok(told.then_some(n))
 }
 
 // Case after case, up to a number that no file reaches.
 fn run(rt: &impl Print, from: &mut impl Read, c: &mut [u8]) -> io::Result<()> {
     for k in 0..4294967295 {
-        match read_case(from, c)? {
-            Some(n) => case::answer(rt, k, c, n)?,
-            None => break,
-        }
+        let Some(n) = read_case(from, c)? else {
+            break;
+        };
+        case::answer(rt, k, c, n)?;
     }
     Ok(())
 }

@@ -1,13 +1,13 @@
 -- What the program's arguments ask, and what it answers: no argument or `report`, `map OFFSET LENGTH`, `walk OFFSET LENGTH PLACES`.
-use Rattle.std.specs.Prelude.{ℕ, List, [], length, leb, eqb}
+use Rattle.std.specs.Prelude.{ℕ, List, [], length, leb, eqb, None, Option, Some}
 use Rattle.text.specs.Ranges.{pick}
 use Rattle.text.specs.Find.{same}
 use Rattle.text.specs.Number.{number_of}
 use Rattle.text.specs.Sector.{largest}
-use Rattle.text.specs.declared.number.Num.{Num}
-use Rattle.text.specs.declared.number.Num.TheVariants.{Value, Bad}
 use Rattle.text.specs.Ascii.{ascii}
 use Rattle.lines.specs.Record.{most}
+use Rattle.lines.specs.Record.{refusal_at}
+use Rattle.lines.specs.declared.record.Fault.TheVariants.{InputTooLong}
 use Rattle.phrases.specs.Line.{refused_line}
 use Rattle.disk_lines.specs.Report.{report_of}
 use Rattle.map_lines.specs.Map.{map_line_of}
@@ -19,14 +19,14 @@ use Rattle.report.specs.declared.command.Command.TheVariants.{Report, Map, Walk,
 abbrev pub most_input : ℕ
 most_input = 65536
 
-abbrev pub map_by : Num → Num → Command
-map_by (Value o) (Value l) = Map o l
-map_by (Value o) Bad = Usage
-map_by Bad l = Usage
+abbrev pub map_by : Option ℕ → Option ℕ → Command
+map_by (Some o) (Some l) = Map o l
+map_by (Some o) None = Usage
+map_by None l = Usage
 
-abbrev pub walk_by : Command → Num → Command
-walk_by (Map o l) (Value p) = Walk o l p
-walk_by (Map o l) Bad = Usage
+abbrev pub walk_by : Command → Option ℕ → Command
+walk_by (Map o l) (Some p) = Walk o l p
+walk_by (Map o l) None = Usage
 walk_by Report p = Usage
 walk_by (Walk o l q) p = Usage
 walk_by Usage p = Usage
@@ -56,4 +56,4 @@ said d Usage = []
 
 -- an input above 65,536 bytes is refused in every mode
 unfoldable pub answer_of : List ℕ → Command → List ℕ
-answer_of d c = pick (leb (length d) most_input) (said d c) (refused_line (record { number = 24; second = 0 }))
+answer_of d c = pick (leb (length d) most_input) (said d c) (refused_line (refusal_at InputTooLong 0))

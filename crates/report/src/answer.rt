@@ -2,14 +2,17 @@
 // the whole answer, within 2^64-1.
 ghost use Rattle.std.specs.Prelude.{◌≡◌, ◌+◌, length, replicate};
 ghost use Rattle.puts.specs.Put.{pasted, after, Put};
+ghost use Rattle.lines.specs.Record.{refusal_at};
+ghost use Rattle.lines.specs.declared.record.Fault.TheVariants.{InputTooLong};
+ghost use Rattle.phrases.specs.Line.{refused_line};
 ghost use Rattle.report.specs.Command.{most_input, answer_of};
 ghost use Rattle.report.specs.Room.{room};
 
 use crate::command::Command;
 use disk_lines::whole::put_report;
-use lines::record::Refusal;
+use lines::record::Fault;
 use map_lines::map::put_map;
-use phrases::line::refused_line;
+use phrases::line::Answer;
 use walk_lines::walk::put_walk;
 
 // Room for the input, and for one byte more, by which an input that is too long is told.
@@ -34,16 +37,22 @@ pub fn answer_space() -> AnswerSpace
     [0; 172032]
 }
 
+// Puts the refusal of an input that is too long.
+fn put_too_long(out: &mut [u8]) -> usize
+    ensures { Put out.old 0 (refused_line (refusal_at InputTooLong 0)) result out.new }
+{
+    let mut answer = Answer { out, at: 0 };
+    answer.refused_line(Fault::InputTooLong.at(0));
+    answer.at
+}
+
 // Puts what the program answers to some input.
+#[tactic(auto, using(puts::proofs::Puts::put_none), unfolding(crate::specs::Command::answer_of))]
 fn put_answer(d: &[u8], asked: Command, out: &mut [u8]) -> usize
     ensures { Put out.old 0 (answer_of d.now asked) result out.new }
 {
     if 65536 < d.len() {
-        let long = Refusal {
-            number: 24,
-            second: 0,
-        };
-        return refused_line(long, out, 0);
+        return put_too_long(out);
     }
     match asked {
         Command::Report => put_report(d, out),

@@ -1,10 +1,13 @@
 // What the program's arguments ask.
 ghost use Rattle.std.specs.Prelude.{◌≡◌};
-ghost use Rattle.report.specs.Command.{range_of, places_of, command_of};
+ghost use Rattle.text.specs.Number.{number_of};
+ghost use Rattle.lines.specs.Record.{most};
+ghost use Rattle.report.specs.Command.{range_of, command_of};
+ghost use Rattle.report.specs.inside.Asking.{map_or_usage, or_usage};
 
 use lines::record::MOST;
 use text::find::is;
-use text::number::{Num, number};
+use text::number::number;
 
 // What the program is asked.
 #[derive(Clone, Copy)]
@@ -20,34 +23,37 @@ pub enum Command {
 }
 
 // OFFSET LENGTH: numbers up to 2^64-1.
-fn range(a: &[u8], b: &[u8]) -> Command
-    ensures { result ≡ range_of a.now b.now }
+#[tactic(auto, unfolding(crate::specs::Command::range_of))]
+fn range(a: &[u8], b: &[u8]) -> Option<(u64, u64)>
+    ensures { map_or_usage result ≡ range_of a.now b.now }
 {
-    let offset = number(a, u64::MAX);
-    let length = number(b, u64::MAX);
-    match offset {
-        Num::Value(o) => match length {
-            Num::Value(l) => Command::Map(o, l),
-            Num::Bad => Command::Usage,
-        },
-        Num::Bad => Command::Usage,
-    }
+    Some((number(a, u64::MAX)?, number(b, u64::MAX)?))
 }
 
-// OFFSET LENGTH PLACES: PLACES is 0 to as many as a walk can write.
-fn places(a: &[u8], b: &[u8], c: &[u8]) -> Command
-    ensures { result ≡ places_of a.now b.now c.now }
+// PLACES: 0 to as many as a walk can write.
+fn places(c: &[u8]) -> Option<usize>
+    ensures { result ≡ number_of most c.now }
 {
-    let asked = range(a, b);
-    let n = number(c, MOST as u64);
-    match asked {
-        Command::Map(o, l) => match n {
-            Num::Value(p) => Command::Walk(o, l, p as usize),
-            Num::Bad => Command::Usage,
-        },
-        Command::Report => Command::Usage,
-        Command::Walk(_, _, _) => Command::Usage,
-        Command::Usage => Command::Usage,
+    Some(number(c, MOST as u64)? as usize)
+}
+
+// What n arguments ask, the first of which is the mode, if it is anything that is known.
+#[tactic(auto, unfolding(crate::specs::Command::command_of, crate::specs::Command::places_of))]
+fn known(n: usize, mode: &[u8], a: &[u8], b: &[u8], c: &[u8]) -> Option<Command>
+    ensures { or_usage result ≡ command_of n mode.now a.now b.now c.now }
+{
+    match n {
+        0 => Some(Command::Report),
+        1 if is(mode, b"report") => Some(Command::Report),
+        3 if is(mode, b"map") => {
+            let (offset, length) = range(a, b)?;
+            Some(Command::Map(offset, length))
+        }
+        4 if is(mode, b"walk") => {
+            let (offset, length) = range(a, b)?;
+            Some(Command::Walk(offset, length, places(c)?))
+        }
+        _ => None,
     }
 }
 
@@ -55,26 +61,5 @@ fn places(a: &[u8], b: &[u8], c: &[u8]) -> Command
 pub fn read_command(n: usize, mode: &[u8], a: &[u8], b: &[u8], c: &[u8]) -> Command
     ensures { result ≡ command_of n mode.now a.now b.now c.now }
 {
-    if n == 0 {
-        return Command::Report;
-    }
-    if n == 1 {
-        if is(mode, b"report") {
-            return Command::Report;
-        }
-        return Command::Usage;
-    }
-    if n == 3 {
-        if is(mode, b"map") {
-            return range(a, b);
-        }
-        return Command::Usage;
-    }
-    if n == 4 {
-        if is(mode, b"walk") {
-            return places(a, b, c);
-        }
-        return Command::Usage;
-    }
-    Command::Usage
+    known(n, mode, a, b, c).unwrap_or(Command::Usage)
 }

@@ -1,3 +1,2 @@
-pub mod Builds
 pub mod Endings
 pub mod Into

@@ -1,12 +1,9 @@
 -- Building: rows follow each other from 0, one for each extent. Building checks for each extent in turn: size, sum, then for flat the file start times 512.
-use Rattle.std.specs.Prelude.{ℕ, ◌+◌, List, [], ◌∷◌, length, leb}
+use Rattle.std.specs.Prelude.{ℕ, ◌+◌, List, [], ◌∷◌, length, leb, None, Ok, Option, Some}
 use Rattle.text.specs.Ranges.{pick}
 use Rattle.text.specs.Sector.{bytes_of, largest}
-use Rattle.text.specs.declared.sector.ByteCount.{ByteCount}
-use Rattle.text.specs.declared.sector.ByteCount.TheVariants.{Count, TooLarge}
-use Rattle.lines.specs.Record.{most, filled, read_in, refusal}
+use Rattle.lines.specs.Record.{most, filled, read_in, refusal, Verdict}
 use Rattle.lines.specs.declared.record.Record.{Record}
-use Rattle.lines.specs.declared.record.Verdict.TheVariants.{Sound}
 use Rattle.lines.specs.declared.record.ReadExtent.{ReadExtent}
 use Rattle.lines.specs.declared.record.VmdkParsedStorage.{VmdkParsedStorage}
 use Rattle.lines.specs.declared.record.VmdkParsedStorage.TheVariants.{NoAccess, Zero, Flat}
@@ -14,7 +11,14 @@ use Rattle.tables.specs.declared.table.Source.{Source}
 use Rattle.tables.specs.declared.table.Source.TheVariants.{NoAccess as Locked, Zero as Zeros, Flat as File}
 use Rattle.tables.specs.declared.table.Row.{Row}
 use Rattle.tables.specs.declared.table.Table.{Table}
-use Rattle.tables.specs.declared.table.Built.{Built}
+use Rattle.text.specs.declared.sector.Bytes.{Bytes}
+use Rattle.lines.specs.declared.record.Fault.{Fault}
+use Rattle.lines.specs.declared.record.Fault.TheVariants.{SizeTooLarge, SumTooLarge, FileStartTooLarge, CountTooLarge}
+
+-- a table that was built, or an empty one with the refusal
+pub record Built : Type 0 where
+  pub verdict : Verdict
+  pub table : Table
 
 -- a row of a line, from its start up to its end
 abbrev pub row_of : ℕ → ℕ → ℕ → Source → Row
@@ -32,15 +36,15 @@ table_of rows size = record { size = record { 0 = size }; count = length rows; r
 abbrev pub no_table : Table
 no_table = table_of [] 0
 
--- the rows and the size, or a refusal's number and the extent's line
+-- the rows and the size, or a refusal's fault and the extent's line
 pub data Rows : Type 0 where
   rows : List Row → ℕ → Rows
-  refused : ℕ → ℕ → Rows
+  refused : Fault → ℕ → Rows
 
 -- go on with a count of bytes, or refuse
-abbrev pub in_bytes : ByteCount → Rows → (ℕ → Rows) → Rows
-in_bytes (Count b) else go = go b.0
-in_bytes TooLarge else go = else
+abbrev pub in_bytes : Option Bytes → Rows → (ℕ → Rows) → Rows
+in_bytes (Some b) else go = go b.0
+in_bytes None else go = else
 
 -- go on with the source in bytes, or refuse its file start
 abbrev pub in_source : VmdkParsedStorage → Rows → (Source → Rows) → Rows
@@ -51,23 +55,23 @@ in_source (Flat a name start) else go = in_bytes (bytes_of start) else λ b. go 
 -- one row in front
 abbrev pub before : Row → Rows → Rows
 before r (rows rs size) = rows (r ∷ rs) size
-before r (refused n k) = refused n k
+before r (refused f k) = refused f k
 
 -- the rows of some extents, which start at a place of the disk; each has its extent's line
 unfoldable pub rows_from : ℕ → List ReadExtent → Rows
 rows_from start [] = rows [] start
 rows_from start (x ∷ xs) =
-    in_bytes (bytes_of x.extent.sectors) (refused 18 x.line) λ size.
+    in_bytes (bytes_of x.extent.sectors) (refused SizeTooLarge x.line) λ size.
     pick (leb (start + size) largest)
-    (in_source x.extent.storage (refused 20 x.line) λ source.
+    (in_source x.extent.storage (refused FileStartTooLarge x.line) λ source.
     before (row_of x.line start (start + size) source) (rows_from (start + size) xs))
-    (refused 19 x.line)
+    (refused SumTooLarge x.line)
 
 -- a refused build answers an empty table
 abbrev pub built : Rows → Built
-built (rows rs size) = record { verdict = Sound; table = table_of rs size }
-built (refused n k) = record { verdict = refusal n k; table = no_table }
+built (rows rs size) = record { verdict = (Ok tt); table = table_of rs size }
+built (refused f k) = record { verdict = refusal f k; table = no_table }
 
 -- building: 23 first, then extent by extent
 unfoldable pub build_of : Record → Built
-build_of r = pick (leb r.count most) (built (rows_from 0 (read_in r))) (built (refused 23 0))
+build_of r = pick (leb r.count most) (built (rows_from 0 (read_in r))) (built (refused CountTooLarge 0))

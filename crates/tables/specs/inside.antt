@@ -1,3 +1,3 @@
 -- How the code goes: what only functions that are not exported promise. A reader who believes the rest of specs/ need not read these.
 pub mod Opening
-pub mod Stepping
+pub mod Storing

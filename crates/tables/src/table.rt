@@ -1,5 +1,5 @@
 // The extent table: the disk's size and a row for each extent.
-use lines::record::{MOST, Text, Verdict, VmdkAccessType};
+use lines::record::{Fault, MOST, Text, VmdkAccessType};
 use text::sector::Bytes;
 
 // Where a row's bytes come from.
@@ -30,13 +30,6 @@ pub struct Table {
     pub rows: [Row; MOST],
 }
 
-// A table that was built, or an empty one with the refusal.
-#[derive(Clone, Copy)]
-pub struct Built {
-    pub verdict: Verdict,
-    pub table: Table,
-}
-
 // What lies at an offset of the disk.
 #[derive(Clone, Copy)]
 pub enum ShallowMapping {
@@ -46,14 +39,12 @@ pub enum ShallowMapping {
     Zero(usize),
     // The row's number, the offset in its file, and whether it may be written
     Raw(usize, u64, bool),
-    // A refusal's number (its second number is 0)
-    Refused(u8),
 }
 
-// A mapping: what lies there, for how many bytes, and how many rows were looked at.
+// A mapping: what lies there, or why it is refused (the second number is 0); for how many bytes, and how many rows were looked at.
 #[derive(Clone, Copy)]
 pub struct Mapping {
-    pub mapping: ShallowMapping,
+    pub mapping: Result<ShallowMapping, Fault>,
     pub run: u64,
     pub looked: usize,
 }
@@ -81,22 +72,20 @@ pub struct Piece {
     pub writable: bool,
 }
 
-// Why a walk stopped.
+// Why a walk stopped that was not refused.
 #[derive(Clone, Copy)]
 pub enum Stop {
     // Nothing is left, or the disk has ended
     Done,
     // The list is full, or 1,024 pieces are written
     More,
-    // A refusal's number (its second number is 0)
-    Refused(u8),
 }
 
-// What a walk did: how many pieces it wrote, why it stopped, the position reached, and the sum of rows looked at.
+// What a walk did: how many pieces it wrote, why it stopped (of a refusal the second number is 0), the position reached, and the sum of rows looked at.
 #[derive(Clone, Copy)]
 pub struct Walked {
     pub count: usize,
-    pub stop: Stop,
+    pub stop: Result<Stop, Fault>,
     pub position: u64,
     pub looked: usize,
 }

@@ -1,5 +1,6 @@
 -- Characters follow each other and each ends within the text, so every place that trimming, a run or a word answers lies within it.
 -- By recursion on the characters, with the place from which they start and the end of the text.
+use Rattle.std.specs.Prelude.{None, Option, Some}
 use Prim.Native.Nat.{ℕ, zero, suc, ◌+◌, ◌-◌, ◌≤◌, ◌<◌, max}
 use native.Mathlib.Omega.{arith}
 use mathlib.Core.List.{List, [], ◌∷◌}
@@ -14,11 +15,7 @@ use Rattle.text.specs.Blank.{blank}
 use Rattle.text.specs.Text.{Text, done, bad, char, put, text_from, text_at, alike, sound, drop_blanks, last_end, range_of, trim_text, trim_of, trimmed, run_text, run_of, word_of}
 use Rattle.text.specs.declared.utf8.Char.{Char}
 use Rattle.text.specs.declared.utf8.Char.TheVariants.{Scalar, Bad, End}
-use Rattle.text.specs.declared.words.Trimmed.{Trimmed}
-use Rattle.text.specs.declared.words.Trimmed.TheVariants.{Range, Wrong}
-use Rattle.text.specs.declared.words.Word.{Word}
-use Rattle.text.specs.declared.words.Word.TheVariants.{Found, None}
-use Rattle.text.proofs.Flat.{by_test}
+use Rattle.text.proofs.Flat.{pair_parts, by_test}
 use Rattle.text.proofs.Texts.{Fit, fit}
 
 -- the characters follow each other from lo on, and end at or below hi
@@ -63,25 +60,24 @@ last_within l hi (char a e c r) h b =
     (λ q. rw q (let g = last_within e hi r b.2 b.3 in omega arith))
 
 -- the range that a text leaves lies within it
-range_within : (lo hi : ℕ) (x : Text) {a e : ℕ} → Between lo hi x → range_of (drop_blanks x) ≡ Range a e → (a ≤ e) × (e ≤ hi)
+range_within : (lo hi : ℕ) (x : Text) {a e : ℕ} → Between lo hi x → range_of (drop_blanks x) ≡ Some (a, e) → (a ≤ e) × (e ≤ hi)
 unfolding drop_blanks
-range_within lo hi done {a} {e} b h = let p : 0 ≡ a = cc in let q : 0 ≡ e = cc in omega arith
+range_within lo hi done {a} {e} b h = let k : (0 ≡ a) × (0 ≡ e) = pair_parts h in omega arith
 range_within lo hi bad b h = let z : ◌≡◌ {A = ℕ} 0 1 = cc in absurd (omega arith)
 range_within lo hi (char x y c r) {a} {e} b h =
     by_test (blank c)
     (λ q. range_within y hi r b.3 (rw q at h))
-    (λ q. let g : Range x (last_end y r) ≡ Range a e = rw q at h in
-    let p₁ : x ≡ a = cc in
-    let p₂ : last_end y r ≡ e = cc in
+    (λ q. let g : Some (x, last_end y r) ≡ Some (a, e) = rw q at h in
+    let k = pair_parts g in
     let m = last_within y hi r b.2 b.3 in
     omega arith)
 
-pub trim_within : (t : List ℕ) {a e : ℕ} → trim_of t ≡ Range a e → (a ≤ e) × (e ≤ length t)
+pub trim_within : (t : List ℕ) {a e : ℕ} → trim_of t ≡ Some (a, e) → (a ≤ e) × (e ≤ length t)
 unfolding trim_of trim_text
 trim_within t {a} {e} h =
     by_test (sound (text_at t 0))
     (λ q. let g = range_within 0 (max 0 (length t)) (text_at t 0) (text_between t 0) (rw q at h) in omega arith)
-    (λ q. let g : Wrong ≡ Range a e = rw q at h in let z : ◌≡◌ {A = ℕ} 0 1 = cc in absurd (omega arith))
+    (λ q. let g : None ≡ Some (a, e) = rw q at h in let z : ◌≡◌ {A = ℕ} 0 1 = cc in absurd (omega arith))
 
 run_text_lem : (w : Bool) (l hi : ℕ) (x : Text) → l ≤ hi → Between l hi x → (l ≤ run_text w l x) × (run_text w l x ≤ hi)
 unfolding run_text
@@ -96,20 +92,19 @@ pub run_within : (w : Bool) (t : List ℕ) (at : ℕ) → (at ≤ run_of w t at)
 unfolding run_of
 run_within w t at = run_text_lem w at (max at (length t)) (text_at t at) (omega arith) (text_between t at)
 
-pub word_within : (t : List ℕ) (at : ℕ) {a e : ℕ} → word_of t at ≡ Found a e → (at ≤ a) × (a < e) × (e ≤ length t)
+pub word_within : (t : List ℕ) (at : ℕ) {a e : ℕ} → word_of t at ≡ Some (a, e) → (at ≤ a) × (a < e) × (e ≤ length t)
 unfolding word_of
 word_within t at {a} {e} h =
     let x = run_of true t at in
     let y = run_of false t x in
     by_test (eqb x y)
-    (λ q. let g : None ≡ Found a e = rw q at h in let z : ◌≡◌ {A = ℕ} 0 1 = cc in absurd (omega arith))
-    (λ q. let g : Found x y ≡ Found a e = rw q at h in
-    let p₁ : x ≡ a = cc in
-    let p₂ : y ≡ e = cc in
+    (λ q. let g : None ≡ Some (a, e) = rw q at h in let z : ◌≡◌ {A = ℕ} 0 1 = cc in absurd (omega arith))
+    (λ q. let g : Some (x, y) ≡ Some (a, e) = rw q at h in
+    let k = pair_parts g in
     omega (arith, eqb-false x y q, run_within true t at, run_within false t x))
 
 -- Rules for a caller that cuts a word out
-module _ (t : List ℕ) (at : ℕ) {r : Word} (e : r ≡ word_of t at) {a b : ℕ} (q : r ≡ Found a b) where
+module _ (t : List ℕ) (at : ℕ) {r : Option (ℕ × ℕ)} (e : r ≡ word_of t at) {a b : ℕ} (q : r ≡ Some (a, b)) where
   pub word_after : at ≤ a
   word_after = (word_within t at (sym e ∙ q)).0
 
@@ -122,8 +117,8 @@ module _ (t : List ℕ) (at : ℕ) {r : Word} (e : r ≡ word_of t at) {a b : �
 pub ruleset cuts = (word_after, word_order, word_inside, rules)
 
 -- Rules of `inner`: the range that trimming leaves can be cut out
-module _ (t : List ℕ) {r : Trimmed} (e : r ≡ trim_of t) where
-  module _ {a b : ℕ} (q : r ≡ Range a b) where
+module _ (t : List ℕ) {r : Option (ℕ × ℕ)} (e : r ≡ trim_of t) where
+  module _ {a b : ℕ} (q : r ≡ Some (a, b)) where
     pub trim_order : a ≤ b
     trim_order = (trim_within t (sym e ∙ q)).0
 
@@ -134,7 +129,7 @@ module _ (t : List ℕ) {r : Trimmed} (e : r ≡ trim_of t) where
     unfolding trimmed
     inner_is = rw (← e, q)
 
-  pub inner_none : r ≡ Wrong → [] ≡ trimmed t
+  pub inner_none : r ≡ None → [] ≡ trimmed t
   unfolding trimmed
   inner_none q = rw (← e, q)
 

@@ -1,5 +1,6 @@
 -- The end of a text, read from behind: in UTF-8 a byte starts a character exactly if it is none of 80 to BF.
 -- So the last such byte is where the last character starts, and blanks at the end can be passed over one after the other from there.
+use Rattle.std.specs.Prelude.{None, Option, Some}
 use Prim.Native.Nat.{ℕ, zero, suc, ◌+◌, ◌-◌, ◌*◌, ◌%◌, ◌≤◌, ◌<◌}
 use native.Mathlib.Omega.{arith}
 use mathlib.Core.List.{List, [], ◌∷◌}
@@ -7,19 +8,17 @@ use mathlib.Core.Bool.{Bool, true, false}
 use mathlib.Core.Path.{◌≡◌, refl, sym, ◌∙◌}
 use lib.ListN.{length, get_or, take, drop}
 use lib.Seq.{get_or-drop}
-use lib.Dec.{leb, ltb, eqb}
+use lib.Dec.{ltb, eqb}
 use borrow.Author.Rules.{rules}
-use borrow.Author.Tests.{leb-true, ltb-true, ltb-false, eqb-true, eqb-false}
+use borrow.Author.Tests.{ltb-true, ltb-false, eqb-true, eqb-false}
 use Rattle.text.specs.Ranges.{pick, within}
 use Rattle.text.specs.Blank.{blank}
 use Rattle.text.specs.inside.Blocks.{back_to, blank_in}
 use Rattle.text.specs.Utf8.{leads, lead_of, tail_of, char_by, char_of, char_at}
 use Rattle.text.specs.Text.{text_at, sound, last_end}
-use Rattle.text.specs.declared.utf8.Lead.{Lead}
-use Rattle.text.specs.declared.utf8.Lead.TheVariants.{Row as Lead-as-Row, Never}
 use Rattle.text.specs.declared.utf8.Char.{Char}
 use Rattle.text.specs.declared.utf8.Char.TheVariants.{Scalar, Bad, End}
-use Rattle.text.proofs.Flat.{by_test, within_in, within_below, within_above, Every, look_all}
+use Rattle.text.proofs.Flat.{within_out, by_test, within_in, Every, look_all}
 use Rattle.text.proofs.Chars.{lead_in, char_at_lem, char_end}
 use Rattle.text.proofs.Texts.{wide_at, text_step, text_bad, text_end}
 use Rattle.text.proofs.Passes.{char_low, char_part, end_at}
@@ -30,22 +29,16 @@ trail b = within 0x80 0xBF b
 
 -- ---- the bytes of a character
 -- its rows ask for bytes 80 to BF
-abbrev Narrow : Lead → Type 0
-Narrow (Lead-as-Row n lo hi span) = (0x80 ≤ lo) × (hi ≤ 0xBF)
-Narrow Never = Unit {0}
+abbrev Narrow : Option (ℕ × ℕ × ℕ × ℕ) → Type 0
+Narrow (Some (n, lo, hi, span)) = (0x80 ≤ lo) × (hi ≤ 0xBF)
+Narrow None = Unit {0}
 
 narrow_all : Every Narrow leads
 narrow_all = omega arith
 
 narrow : (b : ℕ) → Narrow (lead_of b)
 unfolding lead_of
-narrow b = look_all Narrow Never leads b tt narrow_all
-
-within_out : (lo hi x : ℕ) → within lo hi x ≡ true → (lo ≤ x) × (x ≤ hi)
-within_out lo hi x e =
-    by_test (leb lo x)
-    (λ f. let g : leb x hi ≡ true = rw f at e in (leb-true lo x f, leb-true x hi g))
-    (λ f. let g : false ≡ true = rw f at e in let z : ◌≡◌ {A = ℕ} 0 1 = cc in absurd (omega arith))
+narrow b = look_all Narrow None leads b tt narrow_all
 
 trail_in : (lo hi x : ℕ) → 0x80 ≤ lo → hi ≤ 0xBF → within lo hi x ≡ true → trail x ≡ true
 trail_in lo hi x p q e = let g = within_out lo hi x e in within_in 0x80 0xBF x (omega arith) (omega arith)
@@ -64,11 +57,11 @@ tail_trails (suc n) lo hi c w (x ∷ r) {d} {v} e p q =
     more zero h f g = f
     more (suc i) h f g = g i (omega arith)
 
-by_trails : (k : Lead) (b : ℕ) (r : List ℕ) {c w : ℕ} → Narrow k → char_by k b r ≡ Scalar c w → (i : ℕ) → 0 < i → i < w → trail (get_or (b ∷ r) i 0) ≡ true
-by_trails (Lead-as-Row n lo hi span) b r {c} {w} s e zero h k = absurd (omega arith)
-by_trails (Lead-as-Row n lo hi span) b r {c} {w} s e (suc i) h k =
+by_trails : (k : Option (ℕ × ℕ × ℕ × ℕ)) (b : ℕ) (r : List ℕ) {c w : ℕ} → Narrow k → char_by k b r ≡ Scalar c w → (i : ℕ) → 0 < i → i < w → trail (get_or (b ∷ r) i 0) ≡ true
+by_trails (Some (n, lo, hi, span)) b r {c} {w} s e zero h k = absurd (omega arith)
+by_trails (Some (n, lo, hi, span)) b r {c} {w} s e (suc i) h k =
     let g = tail_trails n lo hi (b % span) (n + 1) r {d = c} {v = w} e s.0 s.1 in g.1 i (omega (arith, g.0))
-by_trails Never b r s e i h k = let z : ◌≡◌ {A = ℕ} 0 1 = cc in absurd (omega arith)
+by_trails None b r s e i h k = let z : ◌≡◌ {A = ℕ} 0 1 = cc in absurd (omega arith)
 
 of_trails : (l : List ℕ) {c w : ℕ} → char_of l ≡ Scalar c w → (i : ℕ) → 0 < i → i < w → trail (get_or l i 0) ≡ true
 unfolding char_of
@@ -171,16 +164,14 @@ module _ (t : List ℕ) (from at : ℕ) (i : back_to t from ≡ back_to t at) wh
   unfolding back_to
   back_zero h = let g : at ≡ 0 = omega arith in rw (i, g)
 
-  pub back_low : 0 < at → get_or t at 0 < 0x80 → at ≡ back_to t from
-  back_low h l = sym (i ∙ back_read t at h ∙ rw (within_below 0x80 0xBF (get_or t at 0) l))
+  module _ {k : Bool} (h : 0 < at) (p : k ≡ trail (get_or t at 0)) where
+    pub back_here : k ≡ false → at ≡ back_to t from
+    back_here q = sym (i ∙ back_read t at h ∙ rw (← p, q))
 
-  pub back_high : 0 < at → 0xBF < get_or t at 0 → at ≡ back_to t from
-  back_high h l = sym (i ∙ back_read t at h ∙ rw (within_above 0x80 0xBF (get_or t at 0) l))
+    pub back_more : k ≡ true → back_to t from ≡ back_to t (at - 1)
+    back_more q = i ∙ back_read t at h ∙ rw (← p, q)
 
-  pub back_more : 0 < at → 0x80 ≤ get_or t at 0 → get_or t at 0 ≤ 0xBF → back_to t from ≡ back_to t (at - 1)
-  back_more h l u = i ∙ back_read t at h ∙ rw (within_in 0x80 0xBF (get_or t at 0) l u)
-
-pub ruleset backs = (back_zero, back_low, back_high, back_more, rules)
+pub ruleset backs = (back_zero, back_here, back_more, rules)
 
 -- Rules of `blank_at`
 pub blank_low : (t : List ℕ) (at : ℕ) {k : Bool} → at < length t → get_or t at 0 < 0x80 → k ≡ blank (get_or t at 0) → k ≡ blank_in (char_at t at)

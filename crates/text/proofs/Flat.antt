@@ -1,15 +1,23 @@
 -- A `match` with ranges comes to a place where the number lies in lo to hi, each row's range holding all of it or nothing of it.
 -- There a table of ranges has one value, which is computed from lo and hi alone.
+use Rattle.std.specs.Prelude.{Option, Some, Result, Ok}
 use Prim.Native.Nat.{ℕ, ◌≤◌, ◌<◌}
 use native.Mathlib.Omega.{arith}
 use mathlib.Core.List.{List, [], ◌∷◌}
 use mathlib.Core.Logic.{inl, inr}
 use mathlib.Core.Bool.{Bool, true, false, not, ◌&&◌, ◌||◌}
-use mathlib.Core.Path.{◌≡◌, refl, sym, subst, ◌∙◌}
+use mathlib.Core.Path.{◌≡◌, refl, sym, subst, ap, ◌∙◌}
 use lib.Dec.{T, leb, ltb, eqb, leb→le}
 use borrow.Author.Tests.{eq-eqb, le-leb, lt-leb, leb-true, leb-false, ltb-true}
 use types.Run.{OneOf}
 use Rattle.text.specs.Ranges.{Row, row, look, pick, within}
+
+-- where two pairs that are there are the same, so are their parts
+pub pair_parts : {A B : Type 0} {a x : A} {e y : B} → ◌≡◌ {A = Option (A × B)} (Some (a, e)) (Some (x, y)) → (a ≡ x) × (e ≡ y)
+pair_parts {A} {B} {a} {x} {e} {y} p = let q : ◌≡◌ {A = A × B} (a, e) (x, y) = cc in (ap (λ (z : A × B). z.0) q, ap (λ (z : A × B). z.1) q)
+
+pub ok_parts : {A B E : Type 0} {a x : A} {e y : B} → ◌≡◌ {A = Result (A × B) E} (Ok (a, e)) (Ok (x, y)) → (a ≡ x) × (e ≡ y)
+ok_parts {A} {B} {E} {a} {x} {e} {y} p = let q : ◌≡◌ {A = A × B} (a, e) (x, y) = cc in (ap (λ (z : A × B). z.0) q, ap (λ (z : A × B). z.1) q)
 
 -- the two cases of a test, each with what it says
 pub by_test : {C : Type 0} (b : Bool) → (b ≡ true → C) → (b ≡ false → C) → C
@@ -29,9 +37,6 @@ pub both : (a b : Bool) → a && b ≡ true → (a ≡ true) × (b ≡ true)
 both true b e = (refl, e)
 both false b e = let z : ◌≡◌ {A = ℕ} 0 1 = cc in absurd (omega arith)
 
-pub unequal : (a b : ℕ) → not (eqb a b) ≡ true → a ≡ b → ⊥
-unequal a b e h = let g : false ≡ true = rw (eq-eqb a b h) at e in let z : ◌≡◌ {A = ℕ} 0 1 = cc in absurd (omega arith)
-
 -- the second half of an `|` whose first half is that two numbers differ
 pub unless : (a b : ℕ) (c : Bool) → not (eqb a b) || c ≡ true → a ≡ b → c ≡ true
 unless a b c e h = rw (eq-eqb a b h) at e
@@ -44,6 +49,12 @@ within_below l h x p = rw (lt-leb l x p)
 
 pub within_above : (l h x : ℕ) → h < x → within l h x ≡ false
 within_above l h x q = rw (lt-leb x h q) (pick_same (leb l x) false)
+
+pub within_out : (lo hi x : ℕ) → within lo hi x ≡ true → (lo ≤ x) × (x ≤ hi)
+within_out lo hi x e =
+    by_test (leb lo x)
+    (λ f. let g : leb x hi ≡ true = rw f at e in (leb-true lo x f, leb-true x hi g))
+    (λ f. let g : false ≡ true = rw f at e in let z : ◌≡◌ {A = ℕ} 0 1 = cc in absurd (omega arith))
 
 -- a row's range holds all of lo to hi
 abbrev pub covers : ℕ → ℕ → ℕ → ℕ → Bool

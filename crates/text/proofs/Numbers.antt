@@ -1,21 +1,22 @@
 -- Reading digits from the left and refusing as soon as the limit is passed is `digits_of`: the value only grows, so it stays refused.
 -- The value so far, times ten, and a digit more is the value of the digits so far, by the places of the digits.
-use Prim.Native.Nat.{ℕ, ◌+◌, ◌-◌, ◌*◌, ◌/◌, ◌^◌, ◌≤◌, ◌<◌}
+use Rattle.std.specs.Prelude.{None, Option, Some}
+use Prim.Native.Nat.{ℕ, ◌+◌, ◌-◌, ◌*◌, ◌^◌, ◌≤◌, ◌<◌}
 use native.Mathlib.Omega.{arith}
+use mathlib.Core.Bool.{Bool, true, false}
 use mathlib.Core.List.{List, [], ◌∷◌}
 use mathlib.Core.Path.{◌≡◌, refl, sym, ◌∙◌}
-use lib.ListN.{length, get_or, drop, length-drop, drop_of_length-le}
+use lib.ListN.{length, get_or, take, drop, drop_of_length-le}
 use lib.Seq.{drop-cons}
 use native.Mathlib.Nat.{pow-zero, pow-succ', add-mul, mul_assoc, zero-mul}
 use native.Mathlib.Numerals.{add-one}
-use lib.Dec.{leb}
-use borrow.Author.Tests.{le-leb, lt-leb, leb-true, leb-false, eq-eqb, ne_eqb}
+use lib.Dec.{leb, eqb}
+use borrow.Author.Tests.{le-leb, lt-leb, leb-true, leb-false, eq-eqb, ne_eqb, tests}
 use borrow.Author.Rules.{rules}
 use Rattle.text.specs.Ranges.{pick}
 use Rattle.text.specs.Number.{digit, all_digits, value, up_to, digits_of, digits_at, sign_of, number_of}
-use Rattle.text.specs.declared.number.Num.{Num}
-use Rattle.text.specs.declared.number.Num.TheVariants.{Value, Bad}
-use Rattle.text.proofs.Flat.{by_test, pick_same, within_in, within_below, within_above}
+use Rattle.text.proofs.Parts.{part_rest}
+use Rattle.text.proofs.Flat.{by_test, pick_same}
 
 -- what digits say after those that say v, from the left, as the code does
 value_on : ℕ → List ℕ → ℕ
@@ -29,9 +30,9 @@ on_is v (b ∷ r) =
     rw (on_is (v * 10 + (b - 0x30)) r, add-mul (v * 10) (b - 0x30) (10 ^ length r), mul_assoc v 10 (10 ^ length r), pow-succ' 10 (length r)) (omega arith)
 
 -- the number that digits say after those that say v, refused once it is above the limit
-unfoldable pub num_from : ℕ → ℕ → List ℕ → Num
-num_from limit v [] = Value v
-num_from limit v (b ∷ r) = pick (digit b) (pick (leb (v * 10 + (b - 0x30)) limit) (num_from limit (v * 10 + (b - 0x30)) r) Bad) Bad
+unfoldable pub num_from : ℕ → ℕ → List ℕ → Option ℕ
+num_from limit v [] = Some v
+num_from limit v (b ∷ r) = pick (digit b) (pick (leb (v * 10 + (b - 0x30)) limit) (num_from limit (v * 10 + (b - 0x30)) r) None) None
 
 grows : (v : ℕ) (l : List ℕ) → v ≤ value_on v l
 unfolding value_on
@@ -39,7 +40,7 @@ grows v [] = omega arith
 grows v (b ∷ r) = let h = grows (v * 10 + (b - 0x30)) r in omega arith
 
 -- within the limit so far: what is left decides
-from_is : (limit v : ℕ) (l : List ℕ) → v ≤ limit → num_from limit v l ≡ pick (all_digits l) (up_to limit (value_on v l)) Bad
+from_is : (limit v : ℕ) (l : List ℕ) → v ≤ limit → num_from limit v l ≡ pick (all_digits l) (up_to limit (value_on v l)) None
 unfolding num_from all_digits value_on
 from_is limit v [] h = rw (le-leb v limit h)
 from_is limit v (b ∷ r) h =
@@ -48,7 +49,7 @@ from_is limit v (b ∷ r) h =
     (λ f. rw (e, f) (from_is limit (v * 10 + (b - 0x30)) r (leb-true _ _ f)))
     (λ f. let g = grows (v * 10 + (b - 0x30)) r in
     let o : limit < value_on (v * 10 + (b - 0x30)) r = omega (arith, leb-false (v * 10 + (b - 0x30)) limit f) in
-    rw (e, f, lt-leb _ _ o) (sym (pick_same (all_digits r) Bad))))
+    rw (e, f, lt-leb _ _ o) (sym (pick_same (all_digits r) None))))
     (λ e. rw e)
 
 digits_is : (limit : ℕ) (l : List ℕ) → 0 < length l → digits_of limit l ≡ num_from limit 0 l
@@ -58,65 +59,54 @@ digits_is limit (b ∷ r) h =
     let e : value_on 0 (b ∷ r) ≡ value (b ∷ r) = on_is 0 (b ∷ r) ∙ rw zero-mul (omega arith) in
     sym (from_is limit 0 (b ∷ r) (omega arith) ∙ rw e)
 
--- Rules of `sign`
-pub sign_none : (t : List ℕ) → length t ≡ 0 → 0 ≡ sign_of t
-unfolding sign_of
-sign_none [] h = refl
-sign_none (b ∷ r) h = absurd (omega arith)
-
-pub sign_plus : (t : List ℕ) → (length t ≡ 0 → ⊥) → get_or t 0 0 ≡ 0x2B → 1 ≡ sign_of t
-unfolding sign_of
-sign_plus [] h e = absurd (h refl)
-sign_plus (b ∷ r) h e = rw (eq-eqb b 0x2B e)
-
-pub sign_other : (t : List ℕ) → (length t ≡ 0 → ⊥) → (get_or t 0 0 ≡ 0x2B → ⊥) → 0 ≡ sign_of t
-unfolding sign_of
-sign_other [] h e = absurd (h refl)
-sign_other (b ∷ r) h e = rw (ne_eqb b 0x2B e)
-
-pub ruleset signs = (sign_none, sign_plus, sign_other, rules)
-
 -- the same at a place of a text. It stays shut, so that `search` finds its arguments
-unfoldable pub num_at : ℕ → List ℕ → ℕ → ℕ → Num
+unfoldable pub num_at : ℕ → List ℕ → ℕ → ℕ → Option ℕ
 num_at limit t at v = num_from limit v (drop at t)
 
+-- what one digit more says
+step_some : (d g : Bool) (n w : ℕ) → ◌≡◌ {A = Option ℕ} (Some w) (pick d (pick g (Some n) None) None) → (d ≡ true) × (g ≡ true) × (w ≡ n)
+step_some true true n w e = (refl, refl, cc)
+step_some true false n w e = let z : ◌≡◌ {A = ℕ} 0 1 = cc in absurd (omega arith)
+step_some false g n w e = let z : ◌≡◌ {A = ℕ} 0 1 = cc in absurd (omega arith)
+
+step_none : (d g : Bool) (n : ℕ) (x : Option ℕ) → ◌≡◌ {A = Option ℕ} None (pick d (pick g (Some n) None) None) → ◌≡◌ {A = Option ℕ} (pick d (pick g x None) None) None
+step_none true true n x e = let z : ◌≡◌ {A = ℕ} 0 1 = cc in absurd (omega arith)
+step_none true false n x e = refl
+step_none false g n x e = refl
+
 -- Rules of `digits`
-pub digits_none : (limit : ℕ) (t : List ℕ) (from : ℕ) → length t ≤ from → Bad ≡ digits_at limit t from
-unfolding digits_at digits_of
-digits_none limit t from h = rw (drop_of_length-le t h)
+pub digits_none : (limit : ℕ) (t : List ℕ) → length t ≡ 0 → None ≡ digits_of limit t
+unfolding digits_of
+digits_none limit [] h = refl
+digits_none limit (b ∷ r) h = absurd (omega arith)
 
-pub digits_start : (limit : ℕ) (t : List ℕ) (from : ℕ) → from < length t → digits_at limit t from ≡ num_at limit t from 0
-unfolding digits_at num_at
-digits_start limit t from h = digits_is limit (drop from t) (simp length-drop (omega arith))
+pub digits_start : (limit : ℕ) (t : List ℕ) → (length t ≡ 0 → ⊥) → digits_of limit t ≡ num_at limit t 0 0
+unfolding num_at
+digits_start limit t h = let p : 0 < length t = omega (arith, h) in digits_is limit t p
 
-module _ (limit : ℕ) (t : List ℕ) (from at v : ℕ) (i : digits_at limit t from ≡ num_at limit t at v) where
-  pub num_end : length t ≤ at → Value v ≡ digits_at limit t from
+module _ (limit : ℕ) (t : List ℕ) (at v : ℕ) (i : digits_of limit t ≡ num_at limit t at v) where
+  pub num_end : length t ≤ at → Some v ≡ digits_of limit t
   unfolding num_from num_at
   num_end h = rw (i, drop_of_length-le t h)
 
-  module _ (h : at < length t) where
-    num_at_lem : digits_at limit t from ≡ pick (digit (get_or t at 0)) (pick (leb (v * 10 + (get_or t at 0 - 0x30)) limit) (num_at limit t (at + 1) (v * 10 + (get_or t at 0 - 0x30))) Bad) Bad
+  module _ (h : at < length t) {r : Option ℕ} (p : r ≡ pick (digit (get_or t at 0)) (up_to limit (v * 10 + (get_or t at 0 - 0x30))) None) where
+    num_at_lem : digits_of limit t ≡ pick (digit (get_or t at 0)) (pick (leb (v * 10 + (get_or t at 0 - 0x30)) limit) (num_at limit t (at + 1) (v * 10 + (get_or t at 0 - 0x30))) None) None
     unfolding num_from num_at
     num_at_lem = rw (i, drop-cons t at 0 h, add-one)
 
-    pub num_low : get_or t at 0 < 0x30 → Bad ≡ digits_at limit t from
-    num_low l = rw (num_at_lem, within_below _ _ _ l)
+    pub num_none : r ≡ None → None ≡ digits_of limit t
+    num_none q = sym (num_at_lem ∙ step_none _ _ _ _ (sym q ∙ p))
 
-    pub num_high : 0x39 < get_or t at 0 → Bad ≡ digits_at limit t from
-    num_high l = rw (num_at_lem, within_above _ _ _ l)
+    pub num_more : {w : ℕ} → r ≡ Some w → digits_of limit t ≡ num_at limit t (at + 1) w
+    num_more q = let s = step_some _ _ _ _ (sym q ∙ p) in rw (num_at_lem, s.0, s.1, s.2)
 
-    -- above the limit with this byte, whatever it is
-    pub num_over : limit < v * 10 + (get_or t at 0 - 0x30) → Bad ≡ digits_at limit t from
-    num_over o = rw (num_at_lem, lt-leb _ _ o) (sym (pick_same (digit (get_or t at 0)) Bad))
+pub ruleset digits = (digits_none, digits_start, num_end, num_none, num_more, rules, tests)
 
-    pub num_more : 0x30 ≤ get_or t at 0 → get_or t at 0 ≤ 0x39 → get_or t at 0 - 0x30 ≤ limit → v ≤ (limit - (get_or t at 0 - 0x30)) / 10 → digits_at limit t from ≡ num_at limit t (at + 1) (v * 10 + (get_or t at 0 - 0x30))
-    num_more l u d o = let f : v * 10 + (get_or t at 0 - 0x30) ≤ limit = omega arith in rw (num_at_lem, within_in _ _ _ l u, le-leb _ _ f)
-
-pub ruleset digits = (digits_none, digits_start, num_end, num_low, num_more, rules)
-
--- The rule of `number`
-pub number_is : (limit : ℕ) (t : List ℕ) {s : ℕ} {r : Num} → s ≡ sign_of t → r ≡ digits_at limit t s → r ≡ number_of limit t
-unfolding number_of
-number_is limit t e q = rw (← e) q
-
-pub ruleset numbers = (number_is, rules)
+-- the sign, by the tests that the code makes
+pub number_by : (limit : ℕ) (t : List ℕ) → number_of limit t ≡ pick (leb 1 (length t)) (pick (eqb (get_or t 0 0) 0x2B) (digits_of limit (take (length t - 1) (drop 1 t))) (digits_of limit t)) (digits_of limit t)
+unfolding number_of sign_of digits_at
+number_by limit [] = refl
+number_by limit (b ∷ t) =
+    let r = part_rest 1 (b ∷ t) in
+    let k = le-leb 1 (length (b ∷ t)) (omega arith) in
+    by_test (eqb b 0x2B) (λ e. rw (e, r, k)) (λ e. rw (e, k))

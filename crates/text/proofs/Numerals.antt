@@ -1,5 +1,6 @@
 -- A text is accepted as a number exactly if it is a numeral whose value is within the limit: correct and complete.
 -- A digit is no `+`, so the sign's test tells the two ways to write a numeral apart; a zero in front adds nothing to the value.
+use Rattle.std.specs.Prelude.{None, Some}
 use Prim.Native.Nat.{ℕ, zero, suc, ◌^◌, ◌≤◌, ◌<◌}
 use native.Mathlib.Omega.{arith}
 use native.Mathlib.Nat.{zero-mul}
@@ -11,23 +12,22 @@ use lib.ListN.{length}
 use lib.Dec.{leb, eqb}
 use borrow.Author.Tests.{leb-true, eqb-true}
 use Rattle.text.specs.Number.{all_digits, value, up_to, digits_of, digits_at, sign_of, number_of, Numeral, zeros}
-use Rattle.text.specs.declared.number.Num.TheVariants.{Value, Bad}
 use Rattle.text.proofs.Flat.{by_test}
 
 -- ---- digits
-up_out : (limit u : ℕ) {v : ℕ} → up_to limit u ≡ Value v → (u ≡ v) × (v ≤ limit)
+up_out : (limit u : ℕ) {v : ℕ} → up_to limit u ≡ Some v → (u ≡ v) × (v ≤ limit)
 up_out limit u {v} e =
     by_test (leb u limit)
-    (λ h. let g : Value u ≡ Value v = rw h at e in let q : u ≡ v = cc in (q, rw (← q) (leb-true u limit h)))
-    (λ h. let g : Bad ≡ Value v = rw h at e in let z : ◌≡◌ {A = ℕ} 0 1 = cc in absurd (omega arith))
+    (λ h. let g : Some u ≡ Some v = rw h at e in let q : u ≡ v = cc in (q, rw (← q) (leb-true u limit h)))
+    (λ h. let g : None ≡ Some v = rw h at e in let z : ◌≡◌ {A = ℕ} 0 1 = cc in absurd (omega arith))
 
-digits_out : (limit : ℕ) (l : List ℕ) {v : ℕ} → digits_of limit l ≡ Value v → (0 < length l) × (all_digits l ≡ true) × (value l ≡ v) × (v ≤ limit)
+digits_out : (limit : ℕ) (l : List ℕ) {v : ℕ} → digits_of limit l ≡ Some v → (0 < length l) × (all_digits l ≡ true) × (value l ≡ v) × (v ≤ limit)
 unfolding digits_of
 digits_out limit [] e = let z : ◌≡◌ {A = ℕ} 0 1 = cc in absurd (omega arith)
 digits_out limit (b ∷ r) {v} e =
     by_test (all_digits (b ∷ r))
     (λ h. let g = up_out limit (value (b ∷ r)) (rw h at e) in (omega arith, h, g.0, g.1))
-    (λ h. let g : Bad ≡ Value v = rw h at e in let z : ◌≡◌ {A = ℕ} 0 1 = cc in absurd (omega arith))
+    (λ h. let g : None ≡ Some v = rw h at e in let z : ◌≡◌ {A = ℕ} 0 1 = cc in absurd (omega arith))
 
 digits_in : (limit : ℕ) (l : List ℕ) → 0 < length l → all_digits l ≡ true → digits_of limit l ≡ up_to limit (value l)
 unfolding digits_of
@@ -36,7 +36,7 @@ digits_in limit (b ∷ r) h d = rw d
 
 -- ---- numerals
 -- what is accepted is a numeral, of that value, within the limit
-pub number_out : (limit : ℕ) (t : List ℕ) {v : ℕ} → number_of limit t ≡ Value v → (ds : List ℕ) × Numeral ds t × (value ds ≡ v) × (v ≤ limit)
+pub number_out : (limit : ℕ) (t : List ℕ) {v : ℕ} → number_of limit t ≡ Some v → (ds : List ℕ) × Numeral ds t × (value ds ≡ v) × (v ≤ limit)
 unfolding number_of digits_at sign_of
 number_out limit [] e = let g = digits_out limit [] e in absurd (omega arith)
 number_out limit (b ∷ r) e =

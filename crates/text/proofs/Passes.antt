@@ -1,27 +1,28 @@
 -- Whole characters can be passed over: a text is UTF-8 from a place on exactly if it is from behind them on.
 -- A byte below 80 is one character, and so is a first byte of Table 3-7 with the bytes that its row asks for.
+use Rattle.std.specs.Prelude.{Some}
 use Prim.Native.Nat.{ℕ, zero, suc, ◌+◌, ◌-◌, ◌*◌, ◌%◌, ◌^◌, ◌≤◌, ◌<◌}
 use native.Mathlib.Omega.{arith}
 use native.Mathlib.Nat.{add-zero}
 use mathlib.Core.List.{List}
-use mathlib.Core.Bool.{Bool, true, false, ◌&&◌, ◌||◌, not}
+use mathlib.Core.Bool.{Bool, true, false, ◌||◌, not}
 use mathlib.Core.Path.{◌≡◌, refl, sym, ap, subst, ◌∙◌}
 use lib.ListN.{length, get_or, take, drop, length-take, length-drop}
+use lib.Seq.{get_or-drop}
 use lib.Dec.{eqb, leb}
 use mir.Syntax.{w64}
 use mir.Val.{Fits}
 use borrow.Author.Rules.{rules}
-use borrow.Author.Tests.{ltb-true, leb-true, leb-false, eqb-true, eqb-false}
-use Rattle.text.specs.inside.Blocks.{each, is_low, Passed, width_in}
+use borrow.Author.Tests.{leb-true, leb-false, eqb-true, eqb-false}
+use Rattle.text.specs.inside.Blocks.{Passed, width_in}
 use Rattle.text.specs.Utf8.{lead_of, char_of, char_at}
 use Rattle.text.specs.inside.Places.{tail_at}
 use Rattle.text.specs.Text.{sound, text_at}
-use Rattle.text.specs.declared.utf8.Lead.TheVariants.{Row as Lead-as-Row}
 use Rattle.text.specs.declared.utf8.Char.{Char}
 use Rattle.text.specs.declared.utf8.Char.TheVariants.{Scalar, Bad, End}
-use Rattle.text.proofs.Flat.{by_test, both, unless, within_in}
-use Rattle.text.proofs.Blocks.{each_one}
-use Rattle.text.proofs.Parts.{part_rest, block_byte, block_long}
+use Rattle.text.specs.Ranges.{within}
+use Rattle.text.proofs.Flat.{within_out, by_test, unless, within_in}
+use Rattle.text.proofs.Parts.{part_rest}
 use Rattle.text.proofs.Chars.{lead_in, char_at_lem, char_end, tail_read, tail_none}
 use Rattle.text.proofs.Texts.{Fit, fit, wide_at, next_fits, next_less, text_step, text_bad, text_end}
 
@@ -68,7 +69,7 @@ pair_char t at h p q l u =
 
 -- three bytes, of which the first asks for a second in lo to hi
 module _ (t : List ℕ) (at : ℕ) (h : at + 3 ≤ length t) where
-  triple_char : {lo hi : ℕ} → lead_of (get_or t at 0) ≡ Lead-as-Row 2 lo hi 0x10 → lo ≤ get_or t (at + 1) 0 → get_or t (at + 1) 0 ≤ hi → 0x80 ≤ get_or t (at + 2) 0 → get_or t (at + 2) 0 ≤ 0xBF → width_in (char_at t at) ≡ 3
+  triple_char : {lo hi : ℕ} → lead_of (get_or t at 0) ≡ Some (2, lo, hi, 0x10) → lo ≤ get_or t (at + 1) 0 → get_or t (at + 1) 0 ≤ hi → 0x80 ≤ get_or t (at + 2) 0 → get_or t (at + 2) 0 ≤ 0xBF → width_in (char_at t at) ≡ 3
   unfolding tail_at
   triple_char {lo} {hi} r l u m v =
       let b = get_or t at 0 in
@@ -110,9 +111,9 @@ join : (t : List ℕ) (a e f : ℕ) → Passed t a e → Passed t e f → Passed
 unfolding Passed
 join t a e f i j = (omega (arith, i.0, j.0), j.1, i.2 ∙ j.2)
 
-within : (t : List ℕ) (a e : ℕ) → Passed t a e → (a ≤ e) × (e ≤ length t)
+lies : (t : List ℕ) (a e : ℕ) → Passed t a e → (a ≤ e) × (e ≤ length t)
 unfolding Passed
-within t a e i = (i.0, i.1)
+lies t a e i = (i.0, i.1)
 
 -- n bytes below 80
 low_run : (n : ℕ) (t : List ℕ) (at : ℕ) → at + n ≤ length t → ((i : ℕ) → i < n → get_or t (at + i) 0 < 0x80) → Passed t at (at + n)
@@ -123,67 +124,24 @@ low_run (suc n) t at h l =
     (join t at (at + n) (at + n + 1) (low_run n t at (omega arith) (λ i k. l i (omega arith)))
     (pass t (at + n) (get_or t (at + n) 0) 1 (char_low t (at + n) (omega arith) (l n (omega arith)))))
 
-low_one : (l : List ℕ) → each is_low 16 l ≡ true → (i : ℕ) → i < 16 → get_or l i 0 < 0x80
-low_one l e i h = ltb-true (get_or l i 0) 0x80 (each_one is_low l 16 e i h)
-
--- Rules of `past_blocks`
-module _ (t : List ℕ) (from at : ℕ) (i : Passed t from at) where
-  pub pass_low : at < length t → get_or t at 0 < 0x80 → Passed t from (at + 1)
-  pass_low h l = join t from at (at + 1) i (pass t at (get_or t at 0) 1 (char_low t at h l))
-
-  module _ {last : ℕ} {w : Bool} (l : last ≡ length t - 16) (k : 16 ≤ length t) where
-    pub pass_block : at ≤ last → w ≡ each is_low 16 (take (at + 16 - at) (drop at t)) → w ≡ true → Passed t from (at + 16)
-    pass_block h e q =
-        join t from at (at + 16) i
-        (low_run 16 t at (omega arith)
-        (λ j m. rw (← block_byte t at (at + 16 - at) j (omega arith)) (low_one (take (at + 16 - at) (drop at t)) (sym e ∙ q) j m)))
-
-    pub pass_last : last < at → w ≡ each is_low 16 (take (length t - last) (drop last t)) → w ≡ true → Passed t from (length t)
-    pass_last h e q =
-        let g = within t from at i in
-        let n : at + (length t - at) ≡ length t = omega arith in
-        let r : (j : ℕ) → j < length t - at → get_or t (at + j) 0 < 0x80 = λ j m.
-        let o : last + (at - last + j) ≡ at + j = omega arith in
-        let v = low_one (take (length t - last) (drop last t)) (sym e ∙ q) (at - last + j) (omega arith) in
-        rw (block_byte t last (length t - last) (at - last + j) (omega arith), o) at v in
-        join t from at (length t) i (rw n at (low_run (length t - at) t at (omega arith) r))
-
-pub last_long : (t : List ℕ) {last : ℕ} → last ≡ length t - 16 → 16 ≤ length t → 16 ≤ length (take (length t - last) (drop last t))
-last_long t l k = simp (length-take, length-drop) (omega arith)
-
-pub ruleset lows = (pass_none, pass_low, pass_block, pass_last, block_long, last_long, rules)
-
 -- Rules of `pair_at` and `triple_at`
 pub pass_not : (t : List ℕ) (at n : ℕ) → false ≡ true → width_in (char_at t at) ≡ n
 pass_not t at n h = let z : ◌≡◌ {A = ℕ} 0 1 = cc in absurd (omega arith)
 
 module _ (t : List ℕ) (at : ℕ) where
-  pub pass_pair : 2 ≤ length t - at → leb 0xC2 (get_or t at 0) && leb (get_or t at 0) 0xDF && leb 0x80 (get_or t (at + 1) 0) && leb (get_or t (at + 1) 0) 0xBF ≡ true → width_in (char_at t at) ≡ 2
-  pass_pair h e =
-      let b = get_or t at 0 in
-      let x = get_or t (at + 1) 0 in
-      let q₁ = both (leb 0xC2 b && leb b 0xDF && leb 0x80 x) (leb x 0xBF) e in
-      let q₂ = both (leb 0xC2 b && leb b 0xDF) (leb 0x80 x) q₁.0 in
-      let q₃ = both (leb 0xC2 b) (leb b 0xDF) q₂.0 in
-      let r = pair_char t at (omega arith) (leb-true 0xC2 b q₃.0) (leb-true b 0xDF q₃.1) (leb-true 0x80 x q₂.1) (leb-true x 0xBF q₁.1) in
+  pub pass_pair : 2 ≤ length t - at → 0xC2 ≤ get_or t at 0 → get_or t at 0 ≤ 0xDF → within 0x80 0xBF (get_or t (at + 1) 0) ≡ true → width_in (char_at t at) ≡ 2
+  pass_pair h p q e =
+      let u = within_out 0x80 0xBF (get_or t (at + 1) 0) e in
+      let r = pair_char t at (omega arith) p q u.0 u.1 in
       rw r.1
 
-  pub pass_triple : 3 ≤ length t - at → leb 0xE0 (get_or t at 0) && leb (get_or t at 0) 0xEF && leb 0x80 (get_or t (at + 1) 0) && leb (get_or t (at + 1) 0) 0xBF && leb 0x80 (get_or t (at + 2) 0) && leb (get_or t (at + 2) 0) 0xBF && (not (eqb (get_or t at 0) 0xE0) || leb 0xA0 (get_or t (at + 1) 0)) && (not (eqb (get_or t at 0) 0xED) || leb (get_or t (at + 1) 0) 0x9F) ≡ true → width_in (char_at t at) ≡ 3
-  pass_triple h e =
+  pub pass_triple : 3 ≤ length t - at → 0xE0 ≤ get_or t at 0 → get_or t at 0 ≤ 0xEF → within 0x80 0xBF (get_or t (at + 1) 0) ≡ true → within 0x80 0xBF (get_or t (at + 2) 0) ≡ true → not (eqb (get_or t at 0) 0xE0) || leb 0xA0 (get_or t (at + 1) 0) ≡ true → not (eqb (get_or t at 0) 0xED) || leb (get_or t (at + 1) 0) 0x9F ≡ true → width_in (char_at t at) ≡ 3
+  pass_triple h p q e f k l =
       let b = get_or t at 0 in
       let x = get_or t (at + 1) 0 in
-      let y = get_or t (at + 2) 0 in
-      let f = not (eqb b 0xE0) || leb 0xA0 x in
-      let g = not (eqb b 0xED) || leb x 0x9F in
-      let q₁ = both (leb 0xE0 b && leb b 0xEF && leb 0x80 x && leb x 0xBF && leb 0x80 y && leb y 0xBF && f) g e in
-      let q₂ = both (leb 0xE0 b && leb b 0xEF && leb 0x80 x && leb x 0xBF && leb 0x80 y && leb y 0xBF) f q₁.0 in
-      let q₃ = both (leb 0xE0 b && leb b 0xEF && leb 0x80 x && leb x 0xBF && leb 0x80 y) (leb y 0xBF) q₂.0 in
-      let q₄ = both (leb 0xE0 b && leb b 0xEF && leb 0x80 x && leb x 0xBF) (leb 0x80 y) q₃.0 in
-      let q₅ = both (leb 0xE0 b && leb b 0xEF && leb 0x80 x) (leb x 0xBF) q₄.0 in
-      let q₆ = both (leb 0xE0 b && leb b 0xEF) (leb 0x80 x) q₅.0 in
-      let q₇ = both (leb 0xE0 b) (leb b 0xEF) q₆.0 in
-      triple_rows t at (omega arith) (leb-true 0xE0 b q₇.0) (leb-true b 0xEF q₇.1) (leb-true 0x80 x q₆.1) (leb-true x 0xBF q₅.1) (leb-true 0x80 y q₄.1) (leb-true y 0xBF q₃.1)
-      (λ n. leb-true 0xA0 x (unless b 0xE0 (leb 0xA0 x) q₂.1 n)) (λ n. leb-true x 0x9F (unless b 0xED (leb x 0x9F) q₁.1 n))
+      let u = within_out 0x80 0xBF x e in
+      let v = within_out 0x80 0xBF (get_or t (at + 2) 0) f in
+      triple_rows t at (omega arith) p q u.0 u.1 v.0 v.1 (λ n. leb-true 0xA0 x (unless b 0xE0 (leb 0xA0 x) k n)) (λ n. leb-true x 0x9F (unless b 0xED (leb x 0x9F) l n))
 
 pub ruleset multis = (pass_not, pass_pair, pass_triple, rules)
 
@@ -207,12 +165,23 @@ pub ruleset widths = (width_is, width_char, width_bad, width_end, rules)
 pub valid_start : (t : List ℕ) → Passed t 0 0
 valid_start t = pass_none t 0 (omega arith)
 
-module _ (t : List ℕ) (at e : ℕ) (h : at < length t) (j : Passed t (at + 1) e) where
-  pub low_less : length t - e < length t - at
-  low_less = let g = within t (at + 1) e j in omega arith
+-- a byte below 80, and n more
+module _ (t : List ℕ) (at n : ℕ) (h : at < length t) (j : n ≤ length (take (length t - (at + 1)) (drop (at + 1) t))) where
+  low_end : at + 1 + n ≤ length t
+  low_end = let e : length (take (length t - (at + 1)) (drop (at + 1) t)) ≡ length t - (at + 1) = simp (length-take, length-drop) (omega arith) in omega (arith, e)
 
-  pub valid_low : Passed t 0 at → get_or t at 0 < 0x80 → Passed t 0 e
-  valid_low i l = join t 0 (at + 1) e (pass_low t 0 at i h l) j
+  pub low_fits : length t < 2 ^ 64 → Fits w64 (at + (1 + n))
+  low_fits m = omega (arith, low_end)
+
+  pub low_less : length t - (at + (1 + n)) < length t - at
+  low_less = omega (arith, low_end)
+
+  pub valid_low : Passed t 0 at → get_or t at 0 < 0x80 → ((i : ℕ) → i < n → get_or (take (length t - (at + 1)) (drop (at + 1) t)) i 0 < 0x80) → Passed t 0 (at + (1 + n))
+  valid_low i l r =
+      let o : at + 1 + n ≡ at + (1 + n) = omega arith in
+      rw (← o)
+      (join t 0 (at + 1) (at + 1 + n) (join t 0 at (at + 1) i (pass t at (get_or t at 0) 1 (char_low t at h l)))
+      (low_run n t (at + 1) low_end (λ k m. rw (part_rest (at + 1) t, get_or-drop (at + 1) t k 0) at (r k m))))
 
 module _ (t : List ℕ) (at n : ℕ) (p : n ≡ width_in (char_at t at)) (q : n ≡ 0 → ⊥) where
   stands : (ch : Char) → char_at t at ≡ ch → (c : ℕ) × (char_at t at ≡ Scalar c n)
@@ -224,7 +193,7 @@ module _ (t : List ℕ) (at n : ℕ) (p : n ≡ width_in (char_at t at)) (q : n 
   passes = let r = stands (char_at t at) refl in pass t at r.0 n r.1
 
   pub wide_fits : length t < 2 ^ 64 → Fits w64 (at + n)
-  wide_fits h = let g = within t at (at + n) passes in omega arith
+  wide_fits h = let g = lies t at (at + n) passes in omega arith
 
   pub wide_less : length t - (at + n) < length t - at
   wide_less = let r = stands (char_at t at) refl in next_less t at refl r.1
@@ -247,4 +216,4 @@ pub valid_all : (t : List ℕ) (at : ℕ) → Passed t 0 at → length t ≤ at 
 unfolding Passed sound
 valid_all t at i h = sym (i.2 ∙ rw (text_end t at refl (sym (char_end t at h))))
 
-pub ruleset valids = (valid_start, low_less, valid_low, wide_fits, wide_less, valid_wide, valid_bad, valid_all, rules)
+pub ruleset valids = (valid_start, low_fits, low_less, wide_fits, wide_less, valid_wide, valid_bad, valid_all, rules)

@@ -2,18 +2,16 @@
 -- A byte below 80 is that character by itself; any other place is read as the first of the part from there on.
 use Prim.Native.Nat.{ℕ, ◌+◌, ◌-◌, ◌≤◌, ◌<◌}
 use mathlib.Core.List.{List}
-use mathlib.Core.Bool.{Bool, true, false}
+use mathlib.Core.Bool.{Bool, true, false, beq}
 use mathlib.Core.Path.{◌≡◌, refl, sym, ◌∙◌}
 use lib.ListN.{length, get_or, take, drop}
 use borrow.Author.Rules.{rules}
-use borrow.Author.Tests.{eq-eqb, ne_eqb}
 use Rattle.text.specs.Ranges.{pick}
 use Rattle.text.specs.Utf8.{char_at}
 use Rattle.text.specs.Blank.{blank}
-use Rattle.text.specs.Text.{alike, run_text, run_of, word_of}
+use Rattle.text.specs.Text.{alike, run_text, run_of}
 use Rattle.text.specs.declared.utf8.Char.{Char}
 use Rattle.text.specs.declared.utf8.Char.TheVariants.{Scalar, Bad, End}
-use Rattle.text.specs.declared.words.Word.TheVariants.{Found, None}
 use Rattle.text.proofs.Chars.{char_end}
 use Rattle.text.proofs.Texts.{text_step, text_bad, text_end}
 use Rattle.text.proofs.Passes.{char_low, char_part, parts}
@@ -31,25 +29,32 @@ module _ {x : ℕ} (w : Bool) (t : List ℕ) (at : ℕ) {r : Char} (i : x ≡ ru
   unfolding run_of run_text
   run_wrong q = rw (i, text_bad t at e q)
 
+-- two truth values are the same exactly where the code's `==` says so
+alike_eq : (b w : Bool) → alike b w ≡ beq b w
+alike_eq true true = refl
+alike_eq true false = refl
+alike_eq false true = refl
+alike_eq false false = refl
+
 -- Rules of `run_end`
 module _ {x : ℕ} (w : Bool) (t : List ℕ) (at : ℕ) (i : x ≡ run_of w t at) where
   pub run_out : length t ≤ at → at ≡ x
   run_out h = run_stop w t at i (char_end t at h) refl
 
-  module _ {b k : Bool} (h : at < length t) (l : get_or t at 0 < 0x80) (p : b ≡ blank (get_or t at 0)) (m : k ≡ alike b w) where
-    pub low_on : k ≡ true → x ≡ run_of w t (at + 1)
-    low_on q = rw q at (run_char w t at i refl (char_low t at h l) p m)
+  module _ {b : Bool} (h : at < length t) (l : get_or t at 0 < 0x80) (p : b ≡ blank (get_or t at 0)) where
+    pub low_on : beq b w ≡ true → x ≡ run_of w t (at + 1)
+    low_on q = rw (alike_eq b w, q) at (run_char w t at i refl (char_low t at h l) p refl)
 
-    pub low_off : k ≡ false → at ≡ x
-    low_off q = sym (rw q at (run_char w t at i refl (char_low t at h l) p m))
+    pub low_off : beq b w ≡ false → at ≡ x
+    low_off q = sym (rw (alike_eq b w, q) at (run_char w t at i refl (char_low t at h l) p refl))
 
   module _ {r : Char} (e : r ≡ char_at (take (length t - at) (drop at t)) 0) where
-    module _ {c n : ℕ} {b k : Bool} (q : r ≡ Scalar c n) (p : b ≡ blank c) (m : k ≡ alike b w) where
-      pub run_on : k ≡ true → x ≡ run_of w t (at + n)
-      run_on h = rw h at (run_char w t at i (e ∙ char_part t at) q p m)
+    module _ {c n : ℕ} {b : Bool} (q : r ≡ Scalar c n) (p : b ≡ blank c) where
+      pub run_on : beq b w ≡ true → x ≡ run_of w t (at + n)
+      run_on h = rw (alike_eq b w, h) at (run_char w t at i (e ∙ char_part t at) q p refl)
 
-      pub run_off : k ≡ false → at ≡ x
-      run_off h = sym (rw h at (run_char w t at i (e ∙ char_part t at) q p m))
+      pub run_off : beq b w ≡ false → at ≡ x
+      run_off h = sym (rw (alike_eq b w, h) at (run_char w t at i (e ∙ char_part t at) q p refl))
 
     pub run_bad : r ≡ Bad → at ≡ x
     run_bad q = run_wrong w t at i (e ∙ char_part t at) q
@@ -60,15 +65,3 @@ module _ {x : ℕ} (w : Bool) (t : List ℕ) (at : ℕ) (i : x ≡ run_of w t at
 pub ruleset runs = (run_out, low_on, low_off, run_on, run_off, run_bad, run_end, parts)
 
 pub ruleset offs = (run_off, rules)
-
--- Rules of `next_word`
-module _ (t : List ℕ) (at : ℕ) {a e : ℕ} (p : a ≡ run_of true t at) (q : e ≡ run_of false t a) where
-  pub word_none : a ≡ e → None ≡ word_of t at
-  unfolding word_of
-  word_none h = rw (← p, ← q, eq-eqb a e h)
-
-  pub word_some : (a ≡ e → ⊥) → Found a e ≡ word_of t at
-  unfolding word_of
-  word_some h = rw (← p, ← q, ne_eqb a e h)
-
-pub ruleset words = (word_none, word_some, rules)

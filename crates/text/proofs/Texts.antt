@@ -1,5 +1,6 @@
 -- A character is at least one byte wide and its bytes are there, so after it the text goes on at a later place within the text.
 -- Passing its bytes over one by one comes to what `drop` leaves, which is where the next character is read.
+use Rattle.std.specs.Prelude.{None, Option, Some}
 use Prim.Native.Nat.{ℕ, zero, suc, ◌+◌, ◌-◌, ◌*◌, ◌%◌, ◌^◌, ◌≤◌, ◌<◌}
 use native.Mathlib.Omega.{arith}
 use native.Mathlib.Nat.{add-zero}
@@ -13,8 +14,6 @@ use mir.Val.{Fits}
 use Rattle.text.specs.Ranges.{pick, within}
 use Rattle.text.specs.Utf8.{lead_of, tail_of, char_by, char_of, char_at}
 use Rattle.text.specs.Text.{done, bad, char, text_from, text_at}
-use Rattle.text.specs.declared.utf8.Lead.{Lead}
-use Rattle.text.specs.declared.utf8.Lead.TheVariants.{Row as Lead-as-Row, Never}
 use Rattle.text.specs.declared.utf8.Char.{Char}
 use Rattle.text.specs.declared.utf8.Char.TheVariants.{Scalar, Bad, End}
 
@@ -35,9 +34,9 @@ tail_fit (suc n) lo hi c w m [] h k = tt
 tail_fit (suc n) lo hi c w m (x ∷ r) h k =
     fit_pick m (within lo hi x) (tail_of n 0x80 0xBF (c * 64 + x % 64) w r) (tail_fit n 0x80 0xBF (c * 64 + x % 64) w m r h (omega arith))
 
-by_fit : (k : Lead) (b : ℕ) (r : List ℕ) → Fit (suc (length r)) (char_by k b r)
-by_fit (Lead-as-Row n lo hi span) b r = tail_fit n lo hi (b % span) (n + 1) (suc (length r)) r (omega arith) (omega arith)
-by_fit Never b r = tt
+by_fit : (k : Option (ℕ × ℕ × ℕ × ℕ)) (b : ℕ) (r : List ℕ) → Fit (suc (length r)) (char_by k b r)
+by_fit (Some (n, lo, hi, span)) b r = tail_fit n lo hi (b % span) (n + 1) (suc (length r)) r (omega arith) (omega arith)
+by_fit None b r = tt
 
 pub fit : (l : List ℕ) → Fit (length l) (char_of l)
 unfolding char_of

@@ -1,5 +1,6 @@
 -- Trimming as the code does it, the front from the first byte on and the end from the last byte back, is `trim_text`.
 -- Past the blanks in front the text is what `drop_blanks` leaves, and those blanks do not move the end of the last character that is none.
+use Rattle.std.specs.Prelude.{None, Some}
 use Prim.Native.Nat.{ℕ, ◌+◌, ◌≤◌, ◌<◌}
 use native.Mathlib.Omega.{arith}
 use mathlib.Core.List.{List}
@@ -13,7 +14,6 @@ use Rattle.text.specs.Utf8.{char_at}
 use Rattle.text.specs.Blank.{blank}
 use Rattle.text.specs.declared.utf8.Char.TheVariants.{Scalar, Bad}
 use Rattle.text.specs.Text.{Text, done, bad, char, sound, drop_blanks, last_end, range_of, trim_text, trim_of, text_at, run_text, run_of}
-use Rattle.text.specs.declared.words.Trimmed.TheVariants.{Range, Wrong}
 use Rattle.text.proofs.Flat.{by_test}
 use Rattle.text.proofs.Chars.{char_end}
 use Rattle.text.proofs.Texts.{text_step, text_bad, text_end}
@@ -64,15 +64,15 @@ drop_first (char p q d y) {a} {e} {c} {r} h =
     (λ f. drop_first y {a = a} {e = e} {c = c} {r = r} (rw f at h))
     (λ f. let g : char p q d y ≡ char a e c r = rw f at h in let n : d ≡ c = cc in rw (← n) f)
 
-range_drop : (x : Text) (a e c : ℕ) (r : Text) → drop_blanks x ≡ char a e c r → range_of (drop_blanks x) ≡ Range a (last_end 0 x)
+range_drop : (x : Text) (a e c : ℕ) (r : Text) → drop_blanks x ≡ char a e c r → range_of (drop_blanks x) ≡ Some (a, last_end 0 x)
 unfolding last_end
 range_drop x a e c r d =
     let n : last_end 0 x ≡ last_end e r = sym (last_drop 0 x) ∙ ap (last_end 0) d ∙ ap (λ (b : Bool). last_end (pick b 0 e) r) (drop_first x d) in
-    ap range_of d ∙ ap (Range a) (sym n)
+    ap range_of d ∙ ap (λ z. Some (a, z)) (sym n)
 
 -- Rules of `trim`
 module _ (t : List ℕ) {v : Bool} (p : v ≡ sound (text_at t 0)) where
-  pub trim_bad : v ≡ false → Wrong ≡ trim_of t
+  pub trim_bad : v ≡ false → None ≡ trim_of t
   unfolding trim_of trim_text
   trim_bad q = rw (← p, q)
 
@@ -84,11 +84,11 @@ module _ (t : List ℕ) {v : Bool} (p : v ≡ sound (text_at t 0)) where
       drops : drop_blanks (text_at t 0) ≡ text_at t a
       drops = past t ∙ ap (text_at t) (sym r)
 
-      pub trim_none : length t ≤ a → Range 0 0 ≡ trim_of t
+      pub trim_none : length t ≤ a → Some (0, 0) ≡ trim_of t
       unfolding trim_of trim_text
       trim_none h = rw (trim_sound, drops, text_end t a (char_end t a h) refl)
 
-      pub trim_some : {e : ℕ} → a < length t → e ≡ last_end 0 (text_at t 0) → Range a e ≡ trim_of t
+      pub trim_some : {e : ℕ} → a < length t → e ≡ last_end 0 (text_at t 0) → Some (a, e) ≡ trim_of t
       unfolding trim_of trim_text
       trim_some {e} h l =
           let s : sound (text_at t a) ≡ true = ap sound (sym drops) ∙ sound_drop (text_at t 0) ∙ trim_sound in
@@ -99,16 +99,16 @@ module _ (t : List ℕ) {v : Bool} (p : v ≡ sound (text_at t 0)) where
 pub ruleset trims = (trim_bad, trim_sound, trim_none, trim_some, rules)
 
 -- ---- trimming refuses exactly what is not sound
-sound_range : (x : Text) → sound x ≡ true → range_of (drop_blanks x) ≡ Wrong → ⊥
+sound_range : (x : Text) → sound x ≡ true → range_of (drop_blanks x) ≡ None → ⊥
 unfolding sound drop_blanks
 sound_range done s h = let z : ◌≡◌ {A = ℕ} 0 1 = cc in absurd (omega arith)
 sound_range bad s h = let z : ◌≡◌ {A = ℕ} 0 1 = cc in absurd (omega arith)
 sound_range (char a e c r) s h =
     by_test (blank c)
     (λ q. sound_range r s (rw q at h))
-    (λ q. let g : Range a (last_end e r) ≡ Wrong = rw q at h in let z : ◌≡◌ {A = ℕ} 0 1 = cc in absurd (omega arith))
+    (λ q. let g : Some (a, last_end e r) ≡ None = rw q at h in let z : ◌≡◌ {A = ℕ} 0 1 = cc in absurd (omega arith))
 
-pub trim_wrong : (t : List ℕ) → (trim_of t ≡ Wrong) ↔ (sound (text_at t 0) ≡ false)
+pub trim_wrong : (t : List ℕ) → (trim_of t ≡ None) ↔ (sound (text_at t 0) ≡ false)
 unfolding trim_of trim_text
 trim_wrong t =
     (λ h. by_test (sound (text_at t 0)) (λ e. absurd (sound_range (text_at t 0) e (rw e at h))) (λ e. e), λ e. rw e)

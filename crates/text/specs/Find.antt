@@ -1,23 +1,20 @@
 -- Finding a byte, telling two lists apart, and what stands between quotes.
-use Rattle.std.specs.Prelude.{ℕ, suc, ◌-◌, List, [], ◌∷◌, Bool, true, false, length, get_or, take, drop, leb, eqb}
+use Rattle.std.specs.Prelude.{ℕ, suc, ◌-◌, List, [], ◌∷◌, Bool, true, false, length, get_or, take, drop, leb, eqb, None, Option, Some}
 use Rattle.text.specs.Ranges.{pick}
-use Rattle.text.specs.declared.find.Place.{Place}
-use Rattle.text.specs.declared.find.Place.TheVariants.{Here, Nowhere}
-use Rattle.text.specs.declared.find.Part.{Part}
 
 -- the first place of b in bytes that start at p
-unfoldable pub find_from : ℕ → ℕ → List ℕ → Place
-find_from b p [] = Nowhere
-find_from b p (x ∷ r) = pick (eqb x b) (Here p) (find_from b (suc p) r)
+unfoldable pub find_from : ℕ → ℕ → List ℕ → Option ℕ
+find_from b p [] = None
+find_from b p (x ∷ r) = pick (eqb x b) (Some p) (find_from b (suc p) r)
 
 -- the first place of b in t from the place at
-unfoldable pub find_at : ℕ → List ℕ → ℕ → Place
+unfoldable pub find_at : ℕ → List ℕ → ℕ → Option ℕ
 find_at b t at = find_from b at (drop at t)
 
 -- the place found, or n
-abbrev pub end_by : ℕ → Place → ℕ
-end_by n (Here i) = i
-end_by n Nowhere = n
+abbrev pub end_by : ℕ → Option ℕ → ℕ
+end_by n (Some i) = i
+end_by n None = n
 
 -- where the line that holds the place at ends: at the next 0A, or with the text
 unfoldable pub line_end : List ℕ → ℕ → ℕ
@@ -42,9 +39,9 @@ quoted t =
     pick (leb 2 (length t)) (pick (eqb (get_or t 0 0) 0x22) (eqb (get_or t (length t - 1) 0) 0x22) false) false
 
 -- the part of a text within its quotes, or all of it where it is not in quotes
-unfoldable pub strip_of : List ℕ → Part
-strip_of t = pick (quoted t) (record { from = 1; to = length t - 1 }) (record { from = 0; to = length t })
+unfoldable pub strip_of : List ℕ → ℕ × ℕ
+strip_of t = pick (quoted t) (1, length t - 1) (0, length t)
 
 -- the bytes of a part
-abbrev pub part_of : List ℕ → Part → List ℕ
-part_of t p = take (p.to - p.from) (drop p.from t)
+abbrev pub part_of : List ℕ → ℕ × ℕ → List ℕ
+part_of t p = take (p.1 - p.0) (drop p.0 t)

@@ -1,15 +1,9 @@
 -- Sectors and bytes: a sector is 512 bytes, and a count of either is at most 2^64-1.
-use Rattle.std.specs.Prelude.{ℕ, ◌*◌, List, leb}
+use Rattle.std.specs.Prelude.{ℕ, ◌*◌, List, leb, None, Option, Some}
 use Rattle.text.specs.Ranges.{pick}
 use Rattle.text.specs.Number.{number_of}
-use Rattle.text.specs.declared.number.Num.{Num}
-use Rattle.text.specs.declared.number.Num.TheVariants.{Value, Bad}
 use Rattle.text.specs.declared.sector.Sectors.{Sectors}
 use Rattle.text.specs.declared.sector.Bytes.{Bytes}
-use Rattle.text.specs.declared.sector.SectorCount.{SectorCount}
-use Rattle.text.specs.declared.sector.SectorCount.TheVariants.{Count as Sectors-as-Count, Bad as Sectors-as-Bad}
-use Rattle.text.specs.declared.sector.ByteCount.{ByteCount}
-use Rattle.text.specs.declared.sector.ByteCount.TheVariants.{Count as Bytes-as-Count, TooLarge}
 
 -- the bytes of one sector
 abbrev pub sector_size : ℕ
@@ -28,14 +22,14 @@ abbrev pub bytes_upto : ℕ → Bytes
 bytes_upto offset = record { 0 = offset }
 
 -- a number as a count of sectors
-abbrev pub sectors_by : Num → SectorCount
-sectors_by (Value v) = Sectors-as-Count (record { 0 = v })
-sectors_by Bad = Sectors-as-Bad
+abbrev pub sectors_by : Option ℕ → Option Sectors
+sectors_by (Some v) = Some (record { 0 = v })
+sectors_by None = None
 
 -- the sector count that a text is: a number up to 2^64-1
-unfoldable pub sectors_of : List ℕ → SectorCount
+unfoldable pub sectors_of : List ℕ → Option Sectors
 sectors_of t = sectors_by (number_of largest t)
 
 -- the bytes that so many sectors have, if they are at most 2^64-1
-unfoldable pub bytes_of : Sectors → ByteCount
-bytes_of s = pick (leb (s.0 * sector_size) largest) (Bytes-as-Count (record { 0 = s.0 * sector_size })) TooLarge
+unfoldable pub bytes_of : Sectors → Option Bytes
+bytes_of s = pick (leb (s.0 * sector_size) largest) (Some (record { 0 = s.0 * sector_size })) None

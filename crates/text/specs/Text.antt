@@ -1,14 +1,10 @@
 -- A text's characters, and what trimming and cutting into words leave of them.
-use Rattle.std.specs.Prelude.{ℕ, zero, suc, ◌+◌, ◌-◌, List, [], ◌∷◌, Bool, true, false, take, drop, eqb}
+use Rattle.std.specs.Prelude.{ℕ, zero, suc, ◌+◌, ◌-◌, List, [], ◌∷◌, Bool, true, false, take, drop, eqb, None, Option, Some}
 use Rattle.text.specs.Ranges.{pick}
 use Rattle.text.specs.Utf8.{char_of}
 use Rattle.text.specs.Blank.{blank}
 use Rattle.text.specs.declared.utf8.Char.{Char}
 use Rattle.text.specs.declared.utf8.Char.TheVariants.{Scalar, Bad, End}
-use Rattle.text.specs.declared.words.Trimmed.{Trimmed}
-use Rattle.text.specs.declared.words.Trimmed.TheVariants.{Range, Wrong}
-use Rattle.text.specs.declared.words.Word.{Word}
-use Rattle.text.specs.declared.words.Word.TheVariants.{Found, None}
 
 -- two truth values are the same
 abbrev pub alike : Bool → Bool → Bool
@@ -58,22 +54,22 @@ last_end l bad = l
 last_end l (char a e c r) = last_end (pick (blank c) l e) r
 
 -- the range of the characters, up to the last that is not blank
-abbrev pub range_of : Text → Trimmed
-range_of done = Range 0 0
-range_of bad = Wrong
-range_of (char a e c r) = Range a (last_end e r)
+abbrev pub range_of : Text → Option (ℕ × ℕ)
+range_of done = Some (0, 0)
+range_of bad = None
+range_of (char a e c r) = Some (a, last_end e r)
 
-unfoldable pub trim_text : Text → Trimmed
-trim_text x = pick (sound x) (range_of (drop_blanks x)) Wrong
+unfoldable pub trim_text : Text → Option (ℕ × ℕ)
+trim_text x = pick (sound x) (range_of (drop_blanks x)) None
 
 -- the range that trimming leaves of a text, or that the text is no UTF-8
-unfoldable pub trim_of : List ℕ → Trimmed
+unfoldable pub trim_of : List ℕ → Option (ℕ × ℕ)
 trim_of t = trim_text (text_at t 0)
 
 -- the part of a text that a range is
-abbrev pub cut : List ℕ → Trimmed → List ℕ
-cut t (Range a e) = take (e - a) (drop a t)
-cut t Wrong = []
+abbrev pub cut : List ℕ → Option (ℕ × ℕ) → List ℕ
+cut t (Some (a, e)) = take (e - a) (drop a t)
+cut t None = []
 
 -- a text without the blanks at both ends, empty where the text is no UTF-8
 unfoldable pub trimmed : List ℕ → List ℕ
@@ -89,11 +85,11 @@ run_text w l (char a e c r) = pick (alike (blank c) w) (run_text w e r) l
 unfoldable pub run_of : Bool → List ℕ → ℕ → ℕ
 run_of w t at = run_text w at (text_at t at)
 
-abbrev pub word_in : ℕ → ℕ → Word
-word_in a e = pick (eqb a e) None (Found a e)
+abbrev pub word_in : ℕ → ℕ → Option (ℕ × ℕ)
+word_in a e = pick (eqb a e) None (Some (a, e))
 
 -- the next word of t from the place at: past the blanks, up to a blank
-unfoldable pub word_of : List ℕ → ℕ → Word
+unfoldable pub word_of : List ℕ → ℕ → Option (ℕ × ℕ)
 word_of t at = word_in (run_of true t at) (run_of false t (run_of true t at))
 
 -- ---- the same on code points alone

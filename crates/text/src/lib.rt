@@ -2,6 +2,7 @@
 #![tactic(auto)]
 
 pub mod blank;
+mod blocks;
 pub mod find;
 pub mod number;
 pub mod sector;

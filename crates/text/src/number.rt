@@ -1,59 +1,44 @@
 // Numbers in decimal digits.
-ghost use Rattle.std.specs.Prelude.{◌≡◌};
-ghost use Rattle.text.specs.Number.{digits_at, sign_of, number_of};
+ghost use Rattle.std.specs.Prelude.{◌≡◌, ◌+◌, ◌-◌, ◌*◌, None};
+ghost use Rattle.text.specs.Ranges.{pick};
+ghost use Rattle.text.specs.Number.{digit, up_to, digits_of, number_of};
 
-// A number, or that a text is none.
-#[derive(Clone, Copy)]
-pub enum Num {
-    Value(u64),
-    Bad,
-}
-
-// How many bytes the sign takes.
-fn sign(t: &[u8]) -> usize
-    ensures { result ≡ sign_of t.now }
+// The number with a digit more, if the byte is one and the number is at most limit.
+fn with_digit(v: u64, b: u8, limit: u64) -> Option<u64>
+    ensures { result ≡ pick (digit b) (up_to limit (v * 10 + (b - 0x30))) None }
 {
-    if t.len() == 0 {
-        return 0;
+    let d = match b {
+        b'0'..=b'9' => u64::from(b - b'0'),
+        _ => return None,
+    };
+    if limit.checked_sub(d)? / 10 < v {
+        return None;
     }
-    if t[0] == 0x2B {
-        return 1;
-    }
-    0
+    Some(v * 10 + d)
 }
 
-// The number that the bytes from a place are, if it is at most limit.
-fn digits(t: &[u8], mut at: usize, limit: u64) -> Num
-    ensures { result ≡ digits_at limit t.now at }
+// The number that digits are, if it is at most limit.
+#[tactic(auto, using(crate::proofs::Numbers::digits))]
+fn digits(t: &[u8], limit: u64) -> Option<u64>
+    ensures { result ≡ digits_of limit t.now }
 {
-    if t.len() <= at {
-        return Num::Bad;
+    if t.is_empty() {
+        return None;
     }
-    let mut v: u64 = 0;
-    while at < t.len() {
-        let b = t[at];
-        if b < 0x30 {
-            return Num::Bad;
-        }
-        if 0x39 < b {
-            return Num::Bad;
-        }
-        let d = (b - 0x30) as u64;
-        if limit < d {
-            return Num::Bad;
-        }
-        if (limit - d) / 10 < v {
-            return Num::Bad;
-        }
-        v = v * 10 + d;
-        at += 1;
+    let mut v = 0;
+    for b in t {
+        v = with_digit(v, *b, limit)?;
     }
-    Num::Value(v)
+    Some(v)
 }
 
-// The number that a text is, if it is at most limit.
-pub fn number(t: &[u8], limit: u64) -> Num
+// The number that a text is, past its sign if it has one, if it is at most limit.
+#[tactic(auto, using(crate::proofs::Numbers::number_by))]
+pub fn number(t: &[u8], limit: u64) -> Option<u64>
     ensures { result ≡ number_of limit t.now }
 {
-    digits(t, sign(t), limit)
+    match t {
+        [b'+', unsigned @ ..] => digits(unsigned, limit),
+        _ => digits(t, limit),
+    }
 }

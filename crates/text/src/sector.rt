@@ -2,7 +2,7 @@
 ghost use Rattle.std.specs.Prelude.{◌≡◌};
 ghost use Rattle.text.specs.Sector.{sectors_in, bytes_upto, sectors_of, bytes_of};
 
-use crate::number::{Num, number};
+use crate::number::number;
 
 // A number of sectors. The number is the kind's own: no other crate reaches it but through a function that names what becomes of it.
 #[derive(Clone, Copy)]
@@ -11,20 +11,6 @@ pub struct Sectors(u64);
 // A number of bytes, likewise.
 #[derive(Clone, Copy)]
 pub struct Bytes(u64);
-
-// A sector count, or that a text is no number.
-#[derive(Clone, Copy)]
-pub enum SectorCount {
-    Count(Sectors),
-    Bad,
-}
-
-// A byte count, or that it is above 2^64-1.
-#[derive(Clone, Copy)]
-pub enum ByteCount {
-    Count(Bytes),
-    TooLarge,
-}
 
 impl Sectors {
     // The bytes of one sector.
@@ -44,26 +30,19 @@ impl Sectors {
         self.0
     }
 
-    // The sector count that a text is.
-    pub fn of(t: &[u8]) -> SectorCount
+    // The sector count that a text is, if it is a number.
+    #[tactic(auto, unfolding(crate::specs::Sector::sectors_of))]
+    pub fn of(t: &[u8]) -> Option<Sectors>
         ensures { result ≡ sectors_of t.now }
     {
-        let n = number(t, u64::MAX);
-        match n {
-            Num::Value(v) => SectorCount::Count(Sectors(v)),
-            Num::Bad => SectorCount::Bad,
-        }
+        Some(Sectors(number(t, u64::MAX)?))
     }
 
-    // The bytes that so many sectors have.
-    pub fn bytes(self) -> ByteCount
+    // The bytes that so many sectors have, if they are at most 2^64-1.
+    pub fn bytes(self) -> Option<Bytes>
         ensures { result ≡ bytes_of self }
     {
-        let n = self.0;
-        if u64::MAX / Sectors::SIZE < n {
-            return ByteCount::TooLarge;
-        }
-        ByteCount::Count(Bytes(n * Sectors::SIZE))
+        Some(Bytes(self.0.checked_mul(Sectors::SIZE)?))
     }
 }
 

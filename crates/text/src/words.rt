@@ -5,53 +5,40 @@ ghost use Rattle.text.specs.Utf8.{char_at};
 ghost use Rattle.text.specs.Text.{alike, text_at, sound, last_end, trim_of, trimmed, run_of, word_of};
 
 use crate::blank::is_blank;
-use crate::utf8::{Char, next_char};
+use crate::utf8::{Char, next_char, trails};
 use crate::valid::valid;
 
-// The part of a text that trimming leaves, or that the text is no UTF-8.
-#[derive(Clone, Copy)]
-pub enum Trimmed {
-    Range(usize, usize),
-    Wrong,
-}
-
 // Where the character that ends at a place starts: before the bytes 80 to BF that stand there.
+#[tactic(auto, using(crate::proofs::Ends::backs))]
 fn start_of(t: &[u8], end: usize) -> usize
     requires { (0 < end) × (end ≤ length t.now) }
     ensures { result ≡ back_to t.now (end - 1) }
 {
     let mut at = end - 1;
-    while 0 < at {
-        let b = t[at];
-        if b < 0x80 {
-            return at;
-        }
-        if 0xBF < b {
-            return at;
-        }
+    while 0 < at && trails(t[at]) {
         at -= 1;
     }
     at
 }
 
 // Whether a blank stands at a place.
+#[tactic(auto, using(crate::proofs::Ends::blanks))]
 fn blank_at(t: &[u8], at: usize) -> bool
     requires { at < length t.now }
     ensures { result ≡ blank_in (char_at t.now at) }
 {
     let b = t[at];
     if b < 0x80 {
-        return is_blank(b as u32);
+        return is_blank(u32::from(b));
     }
-    let c = next_char(&t[at..], 0);
-    match c {
+    match next_char(&t[at..], 0) {
         Char::Scalar(code, _) => is_blank(code),
-        Char::Bad => false,
-        Char::End => false,
+        Char::Bad | Char::End => false,
     }
 }
 
 // Where the last character that is not blank ends, or 0 where there is none.
+#[tactic(auto, using(crate::proofs::Ends::lasts))]
 fn last_end(t: &[u8]) -> usize
     requires { sound (text_at t.now 0) ≡ true }
     ensures { result ≡ last_end 0 (text_at t.now 0) }
@@ -59,61 +46,42 @@ fn last_end(t: &[u8]) -> usize
     let mut end = t.len();
     while 0 < end {
         let at = start_of(t, end);
-        if blank_at(t, at) {
-            end = at;
-        } else {
+        if !blank_at(t, at) {
             return end;
         }
+        end = at;
     }
     end
 }
 
-// Whether a text is UTF-8, and its range without the blanks at both ends.
-pub fn trim(t: &[u8]) -> Trimmed
+// Where a text without the blanks at both ends starts and where it ends, if the text is UTF-8.
+#[tactic(auto, using(crate::proofs::Trims::trims))]
+pub fn trim(t: &[u8]) -> Option<(usize, usize)>
     ensures { result ≡ trim_of t.now }
 {
-    if valid(t) {
-        let a = run_end(t, 0, true);
-        if t.len() <= a {
-            return Trimmed::Range(0, 0);
-        }
-        return Trimmed::Range(a, last_end(t));
+    if !valid(t) {
+        return None;
     }
-    Trimmed::Wrong
+    let a = run_end(t, 0, true);
+    if t.len() <= a {
+        return Some((0, 0));
+    }
+    Some((a, last_end(t)))
 }
 
 // A text without the blanks at both ends, as a part of it; empty where the text is no UTF-8.
+#[tactic(auto, using(crate::proofs::Bounds::inners))]
 pub fn inner(t: &[u8]) -> &[u8]
     ensures { result.now ≡ trimmed t.now }
 {
-    let r = trim(t);
-    match r {
-        Trimmed::Range(a, e) => &t[a..e],
-        Trimmed::Wrong => &t[..0],
+    match trim(t) {
+        Some((a, e)) => &t[a..e],
+        None => &[],
     }
 }
 
-// The next word: where it starts and where it ends, or that there is none.
-#[derive(Clone, Copy)]
-pub enum Word {
-    Found(usize, usize),
-    None,
-}
-
-// Whether two truth values are the same.
-fn equal(a: bool, b: bool) -> bool
-    ensures { result ≡ alike a b }
-{
-    if a {
-        return b;
-    }
-    if b {
-        return false;
-    }
-    true
-}
-
-// Where the blanks that start at a place end, or, if they are not wanted, the characters that are not blank.
+// Where the blanks that start at a place end, or, if they are not wanted, the characters that are not blank. A step is as wide as its character, so the loop goes by the place.
+#[tactic(auto, using(crate::proofs::Runs::runs))]
 pub fn run_end(t: &[u8], from: usize, wanted: bool) -> usize
     ensures { result ≡ run_of wanted t.now from }
 {
@@ -121,16 +89,15 @@ pub fn run_end(t: &[u8], from: usize, wanted: bool) -> usize
     while at < t.len() {
         let b = t[at];
         if b < 0x80 {
-            if equal(is_blank(b as u32), wanted) {
+            if is_blank(u32::from(b)) == wanted {
                 at += 1;
                 continue;
             }
             return at;
         }
-        let c = next_char(&t[at..], 0);
-        match c {
+        match next_char(&t[at..], 0) {
             Char::Scalar(code, width) => {
-                if equal(is_blank(code), wanted) {
+                if is_blank(code) == wanted {
                     at += width;
                     continue;
                 }
@@ -143,14 +110,15 @@ pub fn run_end(t: &[u8], from: usize, wanted: bool) -> usize
     at
 }
 
-// The next word at or after a place.
-pub fn next_word(t: &[u8], from: usize) -> Word
+// Where the next word at or after a place starts and where it ends, if there is one.
+#[tactic(auto, unfolding(crate::specs::Text::word_of))]
+pub fn next_word(t: &[u8], from: usize) -> Option<(usize, usize)>
     ensures { result ≡ word_of t.now from }
 {
     let a = run_end(t, from, true);
     let e = run_end(t, a, false);
     if a == e {
-        return Word::None;
+        return None;
     }
-    Word::Found(a, e)
+    Some((a, e))
 }

@@ -1,13 +1,10 @@
 // The answer of each function of the text layer, and which key a text is, as three numbers.
 use keys::key::{Geometry, Key};
-use text::find::Place;
-use text::number::Num;
-use text::sector::{ByteCount, SectorCount, Sectors};
+use text::sector::Sectors;
 use text::utf8::Char;
-use text::words::{Trimmed, Word};
 
-// An answer: which of its cases, and the values of that case.
-#[derive(Clone, Copy)]
+// An answer: which of its cases, and the values of that case. The cases are numbers, as a vector's first line has them: each kind has its own.
+#[derive(Clone, Copy, PartialEq)]
 pub(crate) struct Answer {
     pub tag: u64,
     pub a: u64,
@@ -16,19 +13,12 @@ pub(crate) struct Answer {
 
 // An answer's case, with no values.
 fn bare(tag: u64) -> Answer {
-    Answer {
-        tag: tag,
-        a: 0,
-        b: 0,
-    }
+    Answer { tag, a: 0, b: 0 }
 }
 
 // A yes or a no.
 fn yes(b: bool) -> Answer {
-    if b {
-        return bare(1);
-    }
-    bare(0)
+    bare(u64::from(b))
 }
 
 // A pair of places.
@@ -68,8 +58,8 @@ fn blank(t: &[u8]) -> Answer {
 fn trim(t: &[u8]) -> Answer {
     let r = text::words::trim(t);
     match r {
-        Trimmed::Range(a, e) => places(a, e),
-        Trimmed::Wrong => bare(0),
+        Some((a, e)) => places(a, e),
+        None => bare(0),
     }
 }
 
@@ -77,8 +67,8 @@ fn trim(t: &[u8]) -> Answer {
 fn word(t: &[u8]) -> Answer {
     let w = text::words::next_word(t, 0);
     match w {
-        Word::Found(a, e) => places(a, e),
-        Word::None => bare(0),
+        Some((a, e)) => places(a, e),
+        None => bare(0),
     }
 }
 
@@ -86,23 +76,23 @@ fn word(t: &[u8]) -> Answer {
 fn number(t: &[u8], limit: u64) -> Answer {
     let n = text::number::number(t, limit);
     match n {
-        Num::Value(v) => Answer { tag: 1, a: v, b: 0 },
-        Num::Bad => bare(0),
+        Some(v) => Answer { tag: 1, a: v, b: 0 },
+        None => bare(0),
     }
 }
 
 // q: the part within the quotes.
 fn quotes(t: &[u8]) -> Answer {
-    let p = text::find::strip_quotes(t);
-    places(p.from, p.to)
+    let (from, to) = text::find::strip_quotes(t);
+    places(from, to)
 }
 
 // s: a sector count, and its bytes.
 fn sectors(t: &[u8]) -> Answer {
     let c = Sectors::of(t);
     match c {
-        SectorCount::Count(s) => bytes(s),
-        SectorCount::Bad => bare(0),
+        Some(s) => bytes(s),
+        None => bare(0),
     }
 }
 
@@ -111,12 +101,12 @@ fn bytes(s: Sectors) -> Answer {
     let n = s.number();
     let b = s.bytes();
     match b {
-        ByteCount::Count(c) => Answer {
+        Some(c) => Answer {
             tag: 1,
             a: n,
             b: c.offset(),
         },
-        ByteCount::TooLarge => Answer { tag: 2, a: n, b: 0 },
+        None => Answer { tag: 2, a: n, b: 0 },
     }
 }
 
@@ -129,8 +119,8 @@ fn line(t: &[u8]) -> Answer {
 fn equals(t: &[u8]) -> Answer {
     let p = text::find::find_byte(t, 0, 0x3D);
     match p {
-        Place::Here(i) => places(i, 0),
-        Place::Nowhere => bare(0),
+        Some(i) => places(i, 0),
+        None => bare(0),
     }
 }
 
@@ -159,18 +149,14 @@ fn key(t: &[u8]) -> Answer {
 }
 
 // The answer of the function that a kind names.
-pub(crate) fn ask(kind: &[u8], t: &[u8]) -> Answer {
-    if kind.len() == 0 {
-        return bare(10);
-    }
-    let k = kind[0];
-    match k {
+pub(crate) fn ask(kind: u8, t: &[u8]) -> Answer {
+    match kind {
         b'c' => character(t),
         b'b' => blank(t),
         b't' => trim(t),
         b'w' => word(t),
         b'n' => number(t, u64::MAX),
-        b'v' => number(t, 4294967295),
+        b'v' => number(t, u64::from(u32::MAX)),
         b'q' => quotes(t),
         b's' => sectors(t),
         b'l' => line(t),

@@ -6,44 +6,55 @@
 
 mod answers;
 
+ghost use Rattle.std.specs.Prelude.{◌<◌, ◌≤◌, length, IfSome};
+
 use answers::Answer;
 use input::read_full;
 use std::io;
-use text::number::Num;
-use text::words::Word;
 
-// A number of a vector's first line, and where it ends.
+// A vector: its kind, its text and the answer that is expected.
 #[derive(Drop)]
-struct Field {
-    value: u64,
-    end: usize,
+struct Vector<'a> {
+    kind: u8,
+    text: &'a [u8],
+    expected: Answer,
 }
 
-// Where the next vector starts, whether there was one here, and whether it failed.
-#[derive(Drop)]
-struct Ran {
-    next: usize,
-    found: bool,
-    failed: bool,
-}
-
-// The number that is the next word from a place, or 0.
+// The number that is the next word, or 0, and what stands after it.
 #[tactic(auto, using(text::proofs::Bounds::cuts))]
-fn read_field(d: &[u8], from: usize) -> Field {
-    let w = text::words::next_word(d, from);
-    match w {
-        Word::Found(a, e) => {
-            let n = text::number::number(&d[a..e], u64::MAX);
-            match n {
-                Num::Value(v) => Field { value: v, end: e },
-                Num::Bad => Field { value: 0, end: e },
-            }
-        }
-        Word::None => Field {
-            value: 0,
-            end: from,
-        },
+fn read_number(d: &[u8]) -> (u64, &[u8])
+    ensures { length result.1.now ≤ length d.now }
+{
+    match text::words::next_word(d, 0) {
+        Some((a, e)) => (
+            text::number::number(&d[a..e], u64::MAX).unwrap_or(0),
+            &d[e..],
+        ),
+        None => (0, d),
     }
+}
+
+// The first vector and what stands after it, if there is a whole one.
+fn first_vector(d: &[u8]) -> Option<(Vector<'_>, &[u8])>
+    ensures { IfSome result (λ parts. length parts.1.now < length d.now) }
+{
+    let (kind, d) = d.split_first()?;
+    let (length, d) = read_number(d);
+    let (tag, d) = read_number(d);
+    let (a, d) = read_number(d);
+    let (b, d) = read_number(d);
+    let (_, d) = d.split_first()?;
+    let (text, d) = d.split_at_checked(length as usize)?;
+    let (_, d) = d.split_first()?;
+    let expected = Answer { tag, a, b };
+    Some((
+        Vector {
+            kind: *kind,
+            text,
+            expected,
+        },
+        d,
+    ))
 }
 
 // Writes a space and a number.
@@ -52,8 +63,8 @@ fn print_field(rt: &impl Print, n: u64) -> io::Result<()> {
 }
 
 // Writes a vector's kind and the answer that was given.
-fn print_answer(rt: &impl Print, kind: &[u8], got: Answer) -> io::Result<()> {
-    rt.write_all(kind)?;
+fn print_answer(rt: &impl Print, kind: u8, got: Answer) -> io::Result<()> {
+    rt.write_all(&[kind])?;
     print_field(rt, got.tag)?;
     print_field(rt, got.a)?;
     print_field(rt, got.b)?;
@@ -61,70 +72,22 @@ fn print_answer(rt: &impl Print, kind: &[u8], got: Answer) -> io::Result<()> {
 }
 
 // Answers a vector's text, writes the answer, and says whether it is not the one expected.
-fn fails(rt: &impl Print, kind: &[u8], t: &[u8], expected: Answer) -> io::Result<bool> {
-    let got = answers::ask(kind, t);
-    print_answer(rt, kind, got)?;
-    if got.tag != expected.tag {
-        return Ok(true);
-    }
-    if got.a != expected.a {
-        return Ok(true);
-    }
-    Ok(got.b != expected.b)
+fn fails(rt: &impl Print, v: Vector<'_>) -> io::Result<bool> {
+    let got = answers::ask(v.kind, v.text);
+    print_answer(rt, v.kind, got)?;
+    Ok(got != v.expected)
 }
 
-// Runs the vector that starts at a place, if there is a whole one.
-fn run(rt: &impl Print, d: &[u8], at: usize) -> io::Result<Ran> {
-    let none = Ran {
-        next: at,
-        found: false,
-        failed: false,
-    };
-    if d.len() <= at {
-        return Ok(none);
-    }
-    let length = read_field(d, at + 1);
-    let tag = read_field(d, length.end);
-    let a = read_field(d, tag.end);
-    let b = read_field(d, a.end);
-    let end = b.end;
-    if d.len() <= end {
-        return Ok(none);
-    }
-    let start = end + 1;
-    let n = length.value as usize;
-    if d.len() - start <= n {
-        return Ok(none);
-    }
-    let stop = start + n;
-    let expected = Answer {
-        tag: tag.value,
-        a: a.value,
-        b: b.value,
-    };
-    let kind_end = at + 1;
-    Ok(Ran {
-        next: stop + 1,
-        found: true,
-        failed: fails(rt, &d[at..kind_end], &d[start..stop], expected)?,
-    })
-}
-
-// Runs vector after vector, up to a number that no input reaches.
-fn run_all(rt: &impl Print, d: &[u8]) -> io::Result<()> {
-    let mut at = 0;
-    let mut count: u64 = 0;
-    let mut failed: u64 = 0;
-    while count < 65536 {
-        let r = run(rt, d, at)?;
-        if !r.found {
-            break;
-        }
+// Runs vector after vector.
+fn run_all(rt: &impl Print, mut d: &[u8]) -> io::Result<()> {
+    let mut count: usize = 0;
+    let mut failed: usize = 0;
+    while let Some((vector, rest)) = first_vector(d) {
         count += 1;
-        if r.failed {
+        if fails(rt, vector)? {
             failed += 1;
         }
-        at = r.next;
+        d = rest;
     }
     println!(rt; "run {count}")?;
     println!(rt; "failed {failed}")

@@ -1,6 +1,7 @@
 -- A table that was built is the one table of its extents' rows laid one after the other, because building adds a row for each extent and refuses otherwise.
 -- So every fact about its rows is a fact about sums of sizes.
 -- Assumes nothing.
+use Rattle.std.specs.Prelude.{Ok}
 use Prim.Native.Nat.{ℕ, zero, suc, ◌+◌, ◌-◌, ◌*◌, ◌<◌, ◌≤◌}
 use native.Mathlib.Omega.{arith}
 use mathlib.Core.List.{List, [], ◌∷◌, ◌++◌}
@@ -16,15 +17,15 @@ use Rattle.text.specs.declared.sector.Sectors.{Sectors}
 use Rattle.lines.specs.Record.{most, filled, read_in, bare, counted, no_read, no_extent, refusal}
 use Rattle.lines.specs.declared.record.Record.{Record}
 use Rattle.lines.specs.declared.record.ReadExtent.{ReadExtent}
-use Rattle.lines.specs.declared.record.Verdict.TheVariants.{Sound}
 use Rattle.lines.specs.declared.record.VmdkParsedExtent.{VmdkParsedExtent}
 use Rattle.lines.specs.declared.record.VmdkParsedStorage.{VmdkParsedStorage}
 use Rattle.lines.specs.declared.record.VmdkParsedStorage.TheVariants.{NoAccess, Zero, Flat}
 use Rattle.tables.specs.declared.table.Source.{Source}
 use Rattle.tables.specs.declared.table.Row.{Row}
 use Rattle.tables.specs.declared.table.Table.{Table}
-use Rattle.tables.specs.declared.table.Built.{Built}
-use Rattle.tables.specs.Build.{no_row, table_of, Rows, rows, refused, in_bytes, in_source, before, rows_from, built, build_of}
+use Rattle.lines.specs.declared.record.Fault.TheVariants.{SizeTooLarge, SumTooLarge, FileStartTooLarge, CountTooLarge}
+use Rattle.lines.specs.declared.record.Fault.{Fault}
+use Rattle.tables.specs.Build.{Built, no_row, table_of, Rows, rows, refused, in_bytes, in_source, before, rows_from, built, build_of}
 use Rattle.maps.specs.Place.{bytes_in, size_of}
 use Rattle.theorems.specs.Rows.{Builds, source_of, line_at}
 use Rattle.theorems.proofs.Sayings.{bare_length}
@@ -43,7 +44,7 @@ laid ln start (x ∷ xs) = row_of (ln 0) start x ∷ laid (λ i. ln (suc i)) (st
 abbrev pub lines_in : List ReadExtent → ℕ → ℕ
 lines_in xs i = (get_or xs i no_read).line
 
-never : {k n : ℕ} {rs : List Row} {size : ℕ} → refused n k ≡ rows rs size → ⊥
+never : {k : ℕ} {n : Fault} {rs : List Row} {size : ℕ} → refused n k ≡ rows rs size → ⊥
 never e = let z : ◌≡◌ {A = ℕ} 0 1 = cc in omega arith
 
 -- an extent's file start in bytes is a number of 64 bits
@@ -85,17 +86,17 @@ rows_laid start [] rs size h =
 rows_laid start (x ∷ xs) rs size h =
     let k = x.line in
     let y = x.extent in
-    let h₁ = in_bytes_lem (refused 18 k) rs size never y.sectors _ h in
-    let h₂ = in_test (refused 19 k) rs size never (leb (start + bytes_in y) largest) _ h₁.0 in
-    let h₃ = in_source_lem (refused 20 k) rs size never y.storage _ h₂.0 in
+    let h₁ = in_bytes_lem (refused SizeTooLarge k) rs size never y.sectors _ h in
+    let h₂ = in_test (refused SumTooLarge k) rs size never (leb (start + bytes_in y) largest) _ h₁.0 in
+    let h₃ = in_source_lem (refused FileStartTooLarge k) rs size never y.storage _ h₂.0 in
     let f = in_front (row_of k start y) (rows_from (start + bytes_in y) xs) rs size h₃.0 in
     let g = rows_laid (start + bytes_in y) xs f.0 size f.1 in
     (f.2 ∙ rw g.0, omega (arith, g.1), (leb-true _ _ h₂.1, h₃.1, g.2))
 
-built_rows : (got : Rows) (t : Table) → built got ≡ record { verdict = Sound; table = t } → (rs : List Row) × (size : ℕ) × (got ≡ rows rs size) × (t ≡ table_of rs size)
+built_rows : (got : Rows) (t : Table) → built got ≡ record { verdict = (Ok tt); table = t } → (rs : List Row) × (size : ℕ) × (got ≡ rows rs size) × (t ≡ table_of rs size)
 built_rows (rows rs size) t h = (rs, size, refl, sym (ap (λ (b : Built). b.table) h))
 built_rows (refused n k) t h =
-    let v : refusal n k ≡ Sound = ap (λ (b : Built). b.verdict) h in let z : ◌≡◌ {A = ℕ} 0 1 = cc in absurd (omega arith)
+    let v : refusal n k ≡ (Ok tt) = ap (λ (b : Built). b.verdict) h in let z : ◌≡◌ {A = ℕ} 0 1 = cc in absurd (omega arith)
 
 pub counted_few : (r : Record) → length (counted r) ≤ r.count
 unfolding read_in
@@ -121,7 +122,7 @@ table_laid r t h =
     by_test (leb r.count most)
     (λ e. let b = built_rows (rows_from 0 (read_in r)) t (rw e at h) in
     (rows_table (read_in r) b.0 b.1 t b.2 b.3, counted_short r (leb-true r.count most e), (rows_laid 0 (read_in r) b.0 b.1 b.2).2))
-    (λ e. let b = built_rows (refused 23 0) t (rw e at h) in absurd (never b.2))
+    (λ e. let b = built_rows (refused CountTooLarge 0) t (rw e at h) in absurd (never b.2))
 
 pub length_laid : (ln : ℕ → ℕ) (start : ℕ) (xs : List VmdkParsedExtent) → length (laid ln start xs) ≡ length xs
 unfolding laid
@@ -170,5 +171,5 @@ pub size_all : (xs : List VmdkParsedExtent) (i : ℕ) → length xs ≤ i → si
 size_all xs i h = ap size_of (take_all i xs h)
 
 -- what a sound build answers is the table that the record builds
-pub sound_build : (r : Record) → (build_of r).verdict ≡ Sound → Builds r (build_of r).table
+pub sound_build : (r : Record) → (build_of r).verdict ≡ (Ok tt) → Builds r (build_of r).table
 sound_build r e = λ i. record { verdict = e i; table = (build_of r).table }

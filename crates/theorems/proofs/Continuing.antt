@@ -1,6 +1,7 @@
 -- The parts joined are one walk into as many places as they have together, and a walk that has ended is the same with more places.
 -- So two walks that have both ended are the same, and `most` places are enough.
 -- Assumes nothing.
+use Rattle.std.specs.Prelude.{Err, Ok}
 use Prim.Native.Nat.{ℕ, suc, ◌+◌, ◌<◌, ◌≤◌, min}
 use native.Mathlib.Omega.{arith}
 use mathlib.Core.List.{List, [], ◌∷◌}
@@ -11,7 +12,8 @@ use borrow.Author.Tests.{lt-leb, leb-true, leb-false}
 use Rattle.lines.specs.Record.{most}
 use Rattle.lines.specs.declared.record.Record.{Record}
 use Rattle.tables.specs.declared.table.Table.{Table}
-use Rattle.tables.specs.declared.table.Stop.TheVariants.{More, Refused as Stopped}
+use Rattle.tables.specs.declared.table.Stop.TheVariants.{More}
+use Rattle.lines.specs.declared.record.Fault.TheVariants.{CountTooLarge}
 use Rattle.maps.specs.Walk.{Walk, ends, walk_from, walk_of}
 use Rattle.theorems.specs.Rows.{Builds}
 use Rattle.theorems.specs.Tiling.{All}
@@ -34,13 +36,13 @@ module _ (t : Table) (n : ℕ) (ns : List ℕ) (pos left : ℕ) where
 
   -- 23 comes first
   module _ (h : most < t.count) where
-    walk_refused : (places : ℕ) → walk_of t places pos left ≡ ends (Stopped 23) pos 0
+    walk_refused : (places : ℕ) → walk_of t places pos left ≡ ends (Err CountTooLarge) pos 0
     unfolding walk_of
     walk_refused places = rw (lt-leb _ _ h)
 
-    refused_ended : (parts_of n ns t pos left).stop ≡ More → ⊥
+    refused_ended : (parts_of n ns t pos left).stop ≡ (Ok More) → ⊥
     refused_ended e =
-        let g : Stopped 23 ≡ More = rw (parts_refused n ns t pos left h) at e in let z : ◌≡◌ {A = ℕ} 0 1 = cc in omega arith
+        let g : Err CountTooLarge ≡ (Ok More) = rw (parts_refused n ns t pos left h) at e in let z : ◌≡◌ {A = ℕ} 0 1 = cc in omega arith
 
   module _ (h : t.count ≤ most) where
     abbrev joined : Walk
@@ -49,30 +51,30 @@ module _ (t : Table) (n : ℕ) (ns : List ℕ) (pos left : ℕ) where
     joins : parts_of n ns t pos left ≡ joined
     joins = parts_from n ns t pos left h
 
-    ended : ((parts_of n ns t pos left).stop ≡ More → ⊥) → joined.stop ≡ More → ⊥
-    ended = subst (λ (w : Walk). w.stop ≡ More → ⊥) joins
+    ended : ((parts_of n ns t pos left).stop ≡ (Ok More) → ⊥) → joined.stop ≡ (Ok More) → ⊥
+    ended = subst (λ (w : Walk). w.stop ≡ (Ok More) → ⊥) joins
 
-    longer : (joined.stop ≡ More → ⊥) → walk_from (most + places_in n ns) t pos left ≡ joined
+    longer : (joined.stop ≡ (Ok More) → ⊥) → walk_from (most + places_in n ns) t pos left ≡ joined
     longer k = more_places (places_in n ns) (most + places_in n ns) t pos left k (omega arith)
 
-    list_in : ((parts_of n ns t pos left).stop ≡ More → ⊥) → (places : ℕ) → most ≤ places → (parts_of n ns t pos left).pieces ≡ (walk_of t places pos left).pieces
+    list_in : ((parts_of n ns t pos left).stop ≡ (Ok More) → ⊥) → (places : ℕ) → most ≤ places → (parts_of n ns t pos left).pieces ≡ (walk_of t places pos left).pieces
     list_in k places l =
         rw (joins, walk_most h places l)
         (ap (λ (w : Walk). w.pieces) (sym (longer (ended k))) ∙ all_pieces most (most + places_in n ns) t pos left h (omega arith))
 
-    whole_in : ((walk_from most t pos left).stop ≡ More → ⊥) → ((parts_of n ns t pos left).stop ≡ More → ⊥) → (places : ℕ) → most ≤ places → parts_of n ns t pos left ≡ walk_of t places pos left
+    whole_in : ((walk_from most t pos left).stop ≡ (Ok More) → ⊥) → ((parts_of n ns t pos left).stop ≡ (Ok More) → ⊥) → (places : ℕ) → most ≤ places → parts_of n ns t pos left ≡ walk_of t places pos left
     whole_in m k places l =
         rw (joins, walk_most h places l)
         (sym (longer (ended k)) ∙ more_places most (most + places_in n ns) t pos left m (omega arith))
 
-  ends_enough : most < places_in n ns → (parts_of n ns t pos left).stop ≡ More → ⊥
+  ends_enough : most < places_in n ns → (parts_of n ns t pos left).stop ≡ (Ok More) → ⊥
   ends_enough l e =
       by_test (leb t.count most)
       (λ b. let h = leb-true t.count most b in
       room_enough (places_in n ns) t pos left (omega arith) (ap (λ (w : Walk). w.stop) (sym (joins h)) ∙ e))
       (λ b. refused_ended (leb-false _ _ b) e)
 
-  whole_list : ((parts_of n ns t pos left).stop ≡ More → ⊥) → (places : ℕ) → most ≤ places → (parts_of n ns t pos left).pieces ≡ (walk_of t places pos left).pieces
+  whole_list : ((parts_of n ns t pos left).stop ≡ (Ok More) → ⊥) → (places : ℕ) → most ≤ places → (parts_of n ns t pos left).pieces ≡ (walk_of t places pos left).pieces
   whole_list k places l =
       by_test (leb t.count most)
       (λ b. list_in (leb-true _ _ b) k places l)

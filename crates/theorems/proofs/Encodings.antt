@@ -1,5 +1,6 @@
 -- Each row of Table 3-7 reads the encodings of one range of scalar values, and no other bytes: the bits that a row takes together
 -- are laid out again by Table 3-6 as the bytes that were read, and those of a scalar value fall in the row of its range.
+use Rattle.std.specs.Prelude.{None, Option, Some}
 use Prim.Native.Nat.{ℕ, suc, ◌+◌, ◌*◌, ◌/◌, ◌%◌, ◌≤◌, ◌<◌}
 use native.Mathlib.Omega.{arith}
 use mathlib.Core.List.{List, [], ◌∷◌, ◌++◌}
@@ -12,8 +13,6 @@ use Rattle.text.specs.Ranges.{look, within}
 use Rattle.text.specs.Find.{begins}
 use Rattle.text.specs.Utf8.{leads, lead_of, tail_of, char_by, char_of}
 use Rattle.theorems.specs.Unicode.{scalar, trailing, encode, Stands}
-use Rattle.text.specs.declared.utf8.Lead.{Lead}
-use Rattle.text.specs.declared.utf8.Lead.TheVariants.{Row as Lead-as-Row, Never}
 use Rattle.text.specs.declared.utf8.Char.{Char}
 use Rattle.text.specs.declared.utf8.Char.TheVariants.{Scalar, Bad, End}
 use Rattle.text.proofs.Flat.{by_test, within_in, within_below, within_above, look_each}
@@ -137,12 +136,12 @@ module _ (b lo hi : ℕ) (r : List ℕ) {c w : ℕ} (l : 0x80 ≤ lo) (h : hi �
 
 -- row by row of Table 3-7
 module _ (b : ℕ) (r : List ℕ) (c w : ℕ) where
-  abbrev By : Lead → Type 0
+  abbrev By : Option (ℕ × ℕ × ℕ × ℕ) → Type 0
   By f = char_by f b r ≡ Scalar c w → Reads c w (b ∷ r)
 
-  by_row : By (look Never leads b)
+  by_row : By (look None leads b)
   by_row =
-      look_each By Never leads b
+      look_each By None leads b
       (λ e. let z : ◌≡◌ {A = ℕ} 0 1 = cc in absurd (omega arith)) (
         λ l h. row_1 b r h,
         (
@@ -206,7 +205,7 @@ module _ (c : ℕ) (r : List ℕ) where
         e,
       )
 
-  whole_3 : (lo hi : ℕ) → 0x7FF < c → c ≤ 0xFFFF → lead_of (0xE0 + c / 4096) ≡ Lead-as-Row 2 lo hi 0x10 → lo ≤ trailing (c / 64) → trailing (c / 64) ≤ hi → Whole
+  whole_3 : (lo hi : ℕ) → 0x7FF < c → c ≤ 0xFFFF → lead_of (0xE0 + c / 4096) ≡ Some (2, lo, hi, 0x10) → lo ≤ trailing (c / 64) → trailing (c / 64) ≤ hi → Whole
   unfolding char_of tail_of
   whole_3 lo hi l h e p q =
       let b : ℕ = 0xE0 + c / 4096 in
@@ -222,7 +221,7 @@ module _ (c : ℕ) (r : List ℕ) where
         f₂,
       )
 
-  whole_4 : (lo hi : ℕ) → 0xFFFF < c → c ≤ 0x10FFFF → lead_of (0xF0 + c / 262144) ≡ Lead-as-Row 3 lo hi 0x08 → lo ≤ trailing (c / 4096) → trailing (c / 4096) ≤ hi → Whole
+  whole_4 : (lo hi : ℕ) → 0xFFFF < c → c ≤ 0x10FFFF → lead_of (0xF0 + c / 262144) ≡ Some (3, lo, hi, 0x08) → lo ≤ trailing (c / 4096) → trailing (c / 4096) ≤ hi → Whole
   unfolding char_of tail_of
   whole_4 lo hi l h e p q =
       let b : ℕ = 0xF0 + c / 262144 in

@@ -1,6 +1,7 @@
 -- A piece goes to the end of its row, of the disk or of the range, so after it the walk is over or one row less ends above the position.
 -- So no walk writes more pieces than there are rows, on a hand-made table too, and after so many a built table is at its end.
 -- Assumes nothing.
+use Rattle.std.specs.Prelude.{Err, Ok, Result}
 use Prim.Native.Nat.{ℕ, zero, suc, ◌+◌, ◌-◌, ◌<◌, ◌≤◌, min}
 use native.Mathlib.Omega.{arith}
 use mathlib.Core.List.{[], append-nil}
@@ -13,10 +14,12 @@ use Rattle.lines.specs.Record.{most}
 use Rattle.tables.specs.declared.table.Source.{Source}
 use Rattle.tables.specs.declared.table.Source.TheVariants.{NoAccess as Locked, Zero as Zeros, Flat as File}
 use Rattle.tables.specs.declared.table.Table.{Table}
+use Rattle.tables.specs.declared.table.ShallowMapping.TheVariants.{Eof, Zero, Raw}
+use Rattle.tables.specs.declared.table.Stop.TheVariants.{Done, More}
 use Rattle.tables.specs.declared.table.ShallowMapping.{ShallowMapping}
-use Rattle.tables.specs.declared.table.ShallowMapping.TheVariants.{Eof, Zero, Raw, Refused}
 use Rattle.tables.specs.declared.table.Stop.{Stop}
-use Rattle.tables.specs.declared.table.Stop.TheVariants.{Done, More, Refused as Stopped}
+use Rattle.lines.specs.declared.record.Fault.{Fault}
+use Rattle.lines.specs.Fault.{refusal_number}
 use Rattle.maps.specs.Map.{Search, found, nowhere, sourced, in_row, search_of, map_of}
 use Rattle.maps.specs.Walk.{Walk, step, walk_from}
 use Rattle.theorems.specs.Rows.{row_at, OneRow}
@@ -89,11 +92,11 @@ module _ (t : Table) (pos left : ℕ) where
   Cut i run = (i < t.count) × (pos < (row_at t i).end.0) × (run ≡ min left (min (t.size.0 - pos) ((row_at t i).end.0 - pos)))
 
   -- what a mapping gives: a file offset of 64 bits, and no number of a refusal above 23
-  abbrev pub Gives : ShallowMapping → ℕ → Type 0
-  Gives Eof run = Unit {0}
-  Gives (Refused number) run = number ≤ 23
-  Gives (Zero i) run = Cut i run
-  Gives (Raw i at w) run = Cut i run × (at ≤ largest)
+  abbrev pub Gives : Result ShallowMapping Fault → ℕ → Type 0
+  Gives (Ok Eof) run = Unit {0}
+  Gives (Err f) run = refusal_number f ≤ 23
+  Gives (Ok (Zero i)) run = Cut i run
+  Gives (Ok (Raw i at w)) run = Cut i run × (at ≤ largest)
 
   gives_source : (s : Source) (i within run n : ℕ) → Cut i run → Gives (sourced s i within run n).mapping (sourced s i within run n).run
   unfolding sourced
@@ -120,7 +123,7 @@ abbrev Fills : Table → ℕ → ℕ → ℕ → ℕ → Type 0
 Fills t room pos left q =
     (0 < left) × (pos < t.size.0) × (room + above t t.count q ≤ above t t.count pos) × (q < t.size.0)
 
-not_more : {C : Type 0} → Done ≡ More → C
+not_more : {C : Type 0} → ◌≡◌ {A = Result Stop Fault} (Ok Done) (Ok More) → C
 not_more e = let z : ◌≡◌ {A = ℕ} 0 1 = cc in absurd (omega arith)
 
 module _ (t : Table) (pos left : ℕ) (c : 0 < left) (l : pos < t.size.0) where
@@ -129,13 +132,13 @@ module _ (t : Table) (pos left : ℕ) (c : 0 < left) (l : pos < t.size.0) where
       let e : (row_at t i).end.0 ≤ pos + run = omega (arith, k.2, f.0, f.1) in
       (c, l, omega (arith, above_less t t.count i pos (pos + run) k.0 k.1 e, f.2), f.3)
 
-  fills_step : (m : ShallowMapping) (run n room : ℕ) (w : Walk) → Gives t pos left m run → (w.stop ≡ More → Fills t room (pos + run) (left - run) w.position) → (step pos m run n w).stop ≡ More → Fills t (suc room) pos left (step pos m run n w).position
-  fills_step Eof run n room w g f e = not_more e
-  fills_step (Refused number) run n room w g f e = let z : ◌≡◌ {A = ℕ} 0 1 = cc in absurd (omega arith)
-  fills_step (Zero i) run n room w g f e = fills_piece i run room w.position g (f e)
-  fills_step (Raw i at wr) run n room w g f e = fills_piece i run room w.position g.0 (f e)
+  fills_step : (m : Result ShallowMapping Fault) (run n room : ℕ) (w : Walk) → Gives t pos left m run → (w.stop ≡ (Ok More) → Fills t room (pos + run) (left - run) w.position) → (step pos m run n w).stop ≡ (Ok More) → Fills t (suc room) pos left (step pos m run n w).position
+  fills_step (Ok Eof) run n room w g f e = not_more e
+  fills_step (Err number) run n room w g f e = let z : ◌≡◌ {A = ℕ} 0 1 = cc in absurd (omega arith)
+  fills_step (Ok (Zero i)) run n room w g f e = fills_piece i run room w.position g (f e)
+  fills_step (Ok (Raw i at wr)) run n room w g f e = fills_piece i run room w.position g.0 (f e)
 
-fills : (room : ℕ) (t : Table) (pos left : ℕ) → (walk_from room t pos left).stop ≡ More → Fills t room pos left (walk_from room t pos left).position
+fills : (room : ℕ) (t : Table) (pos left : ℕ) → (walk_from room t pos left).stop ≡ (Ok More) → Fills t room pos left (walk_from room t pos left).position
 fills zero t pos left h =
     over_or_on t pos left (λ e. not_more (rw (e 0) at h)) (λ c l. rw (walk_full t pos left c l) (c, l, omega arith, l))
 fills (suc room) t pos left h =
@@ -146,7 +149,7 @@ fills (suc room) t pos left h =
     rw s (fills_step t pos left c l m.mapping m.run m.looked room w (gives t pos left) (fills room t (pos + m.run) (left - m.run)) (rw s at h)))
 
 -- more room than rows is enough, on any table
-pub room_enough : (room : ℕ) (t : Table) (pos left : ℕ) → t.count < room → (walk_from room t pos left).stop ≡ More → ⊥
+pub room_enough : (room : ℕ) (t : Table) (pos left : ℕ) → t.count < room → (walk_from room t pos left).stop ≡ (Ok More) → ⊥
 room_enough room t pos left h e = omega (arith, (fills room t pos left e).2, above_most t t.count pos)
 
 -- as much room as rows is enough for all pieces
@@ -160,16 +163,16 @@ none_above t pos left h (suc room) =
     no_cut : {A : Type 0} {i run : ℕ} → Cut t pos left i run → A
     no_cut {i = i} k = absurd (omega (arith, above_some t t.count i pos k.0 k.1))
 
-    no_piece : (m : ShallowMapping) (run n : ℕ) (w : Walk) → Gives t pos left m run → (step pos m run n w).pieces ≡ []
-    no_piece Eof run n w g = refl
-    no_piece (Refused number) run n w g = refl
-    no_piece (Zero i) run n w g = no_cut g
-    no_piece (Raw i at wr) run n w g = no_cut g.0
+    no_piece : (m : Result ShallowMapping Fault) (run n : ℕ) (w : Walk) → Gives t pos left m run → (step pos m run n w).pieces ≡ []
+    no_piece (Ok Eof) run n w g = refl
+    no_piece (Err number) run n w g = refl
+    no_piece (Ok (Zero i)) run n w g = no_cut g
+    no_piece (Ok (Raw i at wr)) run n w g = no_cut g.0
 
-on_pieces : (w : Walk) (s : Stop) (next : Walk) → (s ≡ More → next.pieces ≡ []) → (go_on w s next).pieces ≡ w.pieces
-on_pieces w Done next h = refl
-on_pieces w More next h = rw (h refl, append-nil)
-on_pieces w (Stopped number) next h = refl
+on_pieces : (w : Walk) (s : Result Stop Fault) (next : Walk) → (s ≡ (Ok More) → next.pieces ≡ []) → (go_on w s next).pieces ≡ w.pieces
+on_pieces w (Ok Done) next h = refl
+on_pieces w (Ok More) next h = rw (h refl, append-nil)
+on_pieces w (Err number) next h = refl
 
 pub all_pieces : (a b : ℕ) (t : Table) (pos left : ℕ) → t.count ≤ a → a ≤ b → (walk_from b t pos left).pieces ≡ (walk_from a t pos left).pieces
 all_pieces a b t pos left h l =
@@ -180,7 +183,7 @@ all_pieces a b t pos left h l =
     (λ k. none_above t w.position (left - (w.position - pos)) (omega (arith, (fills a t pos left k).2, above_most t t.count pos)) (b - a))
 
 -- on a table whose rows hold every offset below the size, as much room as rows is enough
-pub room_enough_held : (room : ℕ) (t : Table) (pos left : ℕ) → ((o : ℕ) → o < t.size.0 → OneRow t o) → t.count ≤ room → (walk_from room t pos left).stop ≡ More → ⊥
+pub room_enough_held : (room : ℕ) (t : Table) (pos left : ℕ) → ((o : ℕ) → o < t.size.0 → OneRow t o) → t.count ≤ room → (walk_from room t pos left).stop ≡ (Ok More) → ⊥
 room_enough_held room t pos left one h e =
     let f = fills room t pos left e in
     let q = (walk_from room t pos left).position in

@@ -1,6 +1,7 @@
 -- An answer is a few lines and at most one line for each row, in which its name stands, and the names lie in the input.
 -- So it has at most as many bytes as the input, with row_most more for each row and head_most besides.
 -- Assumes nothing.
+use Rattle.std.specs.Prelude.{Err, None, Ok, Option, Result, Some}
 use Prim.Native.Nat.{ℕ, suc, ◌+◌, ◌*◌, ◌<◌, ◌≤◌, min}
 use native.Mathlib.Omega.{arith}
 use mathlib.Core.List.{List, [], ◌∷◌}
@@ -16,13 +17,10 @@ use Rattle.text.specs.Sector.{largest}
 use Rattle.text.specs.Ascii.{ascii}
 use Rattle.text.specs.Find.{same}
 use Rattle.text.specs.Number.{number_of}
-use Rattle.text.specs.declared.number.Num.{Num}
-use Rattle.text.specs.declared.number.Num.TheVariants.{Value, Bad}
 use Rattle.text.proofs.Flat.{by_test, pick_all}
 use Rattle.text.proofs.Numerals.{number_out}
 use Rattle.lines.specs.Record.{most, no_desc, no_extent, filled, counted}
 use Rattle.lines.specs.declared.record.Refusal.{Refusal}
-use Rattle.lines.specs.declared.record.Verdict.TheVariants.{Sound}
 use Rattle.lines.specs.declared.record.VmdkParsedExtent.{VmdkParsedExtent}
 use Rattle.lines.specs.declared.record.VmdkParsedStorage.{VmdkParsedStorage}
 use Rattle.lines.specs.declared.record.VmdkParsedStorage.TheVariants.{NoAccess, Zero, Flat}
@@ -32,8 +30,7 @@ use Rattle.tables.specs.Build.{no_row}
 use Rattle.tables.specs.declared.table.Row.{Row}
 use Rattle.tables.specs.declared.table.Table.{Table}
 use Rattle.tables.specs.declared.table.Piece.{Piece}
-use Rattle.tables.specs.declared.table.ShallowMapping.{ShallowMapping}
-use Rattle.tables.specs.declared.table.ShallowMapping.TheVariants.{Eof, Zero as Zeroed, Raw, Refused}
+use Rattle.tables.specs.declared.table.ShallowMapping.TheVariants.{Eof, Zero as Zeroed, Raw}
 use Rattle.maps.specs.Map.{map_of}
 use Rattle.maps.specs.Place.{bytes_in}
 use Rattle.maps.specs.Walk.{walk_of, walked}
@@ -45,6 +42,9 @@ use Rattle.report.specs.Command.{most_input, map_by, walk_by, range_of, places_o
 use Rattle.report.specs.Room.{row_most, head_most, room}
 use Rattle.report.specs.declared.command.Command.{Command}
 use Rattle.report.specs.declared.command.Command.TheVariants.{Report, Map, Walk as Walks, Usage}
+use Rattle.tables.specs.declared.table.ShallowMapping.{ShallowMapping}
+use Rattle.lines.specs.declared.record.Fault.{Fault}
+use Rattle.lines.specs.Fault.{refusal_number}
 use Rattle.theorems.specs.Reports.{RefusedBy, Opens, OfTable, total, Asked}
 use Rattle.theorems.specs.Rows.{source_of, line_at}
 use Rattle.theorems.specs.Statements.{sayings_of}
@@ -108,12 +108,12 @@ module _ (d : List ℕ) (ln : ℕ → ℕ) (xs : List VmdkParsedExtent) (few : l
       omega (arith, total_rise f t.count (length xs) 0 ks (omega (arith, count_is ln xs)) r a)
 
   -- ---- a mapping
-  shows_of : (o asked : ℕ) (m : ShallowMapping) (run : ℕ) → Gives t o asked m run → Shows m run × (shown_name d t.rows m ≤ total (line_bytes d) xs)
+  shows_of : (o asked : ℕ) (m : Result ShallowMapping Fault) (run : ℕ) → Gives t o asked m run → Shows m run × (shown_name d t.rows m ≤ total (line_bytes d) xs)
   unfolding total
-  shows_of o asked Eof run g = (tt, omega arith)
-  shows_of o asked (Refused k) run g = (omega arith, omega arith)
-  shows_of o asked (Zeroed i) run g = ((omega (arith, size_small ln xs few n, g.2), omega (arith, count_is ln xs, g.0)), omega arith)
-  shows_of o asked (Raw i at w) run g =
+  shows_of o asked (Ok Eof) run g = (tt, omega arith)
+  shows_of o asked (Err k) run g = (omega arith, omega arith)
+  shows_of o asked (Ok (Zeroed i)) run g = ((omega (arith, size_small ln xs few n, g.2), omega (arith, count_is ln xs, g.0)), omega arith)
+  shows_of o asked (Ok (Raw i at w)) run g =
       let c = g.0 in
       ((omega (arith, size_small ln xs few n, c.2), omega (arith, count_is ln xs, c.0), g.1), omega (arith, rows_once (i ∷ []) (omega arith, tt) (c.0, tt)))
 
@@ -144,7 +144,7 @@ module _ (d : List ℕ) (ln : ℕ → ℕ) (xs : List VmdkParsedExtent) (few : l
 
 -- ---- an input
 -- the version of a descriptor that is read
-version_small : (d : List ℕ) → (read_of d).verdict ≡ Sound → (read_of d).descriptor.desc.version ≤ 3
+version_small : (d : List ℕ) → (read_of d).verdict ≡ (Ok tt) → (read_of d).descriptor.desc.version ≤ 3
 version_small d e =
     let a = accepted_checked d e in
     rw a.1 (upto (set_all no_desc (sayings_of d)).version a.0)
@@ -155,10 +155,10 @@ version_small d e =
 
 refused_small : (d : List ℕ) → length d ≤ most_input → (x : Refusal) → RefusedBy d x → length (refused_line x) ≤ 50
 refused_small d h x (inl e) =
-    let g : (x.number ≤ 24) × (x.second ≤ largest) = subst (AtMost largest) e (read_most largest d (omega arith)) in
+    let g : (refusal_number x.fault ≤ 24) × (x.second ≤ largest) = subst (AtMost largest) e (read_most largest d (omega arith)) in
     refused_short x (omega arith) g.1
 refused_small d h x (inr e) =
-    let g : (x.number ≤ 24) × (x.second ≤ largest) = subst (AtMost largest) e.1 (build_most largest (read_of d).descriptor (read_lined largest d (omega arith) e.0)) in
+    let g : (refusal_number x.fault ≤ 24) × (x.second ≤ largest) = subst (AtMost largest) e.1 (build_most largest (read_of d).descriptor (read_lined largest d (omega arith) e.0)) in
     refused_short x (omega arith) g.1
 
 -- the most bytes of an answer to so many bytes
@@ -207,16 +207,16 @@ pub room_enough : answer_most most_input ≤ room
 room_enough = omega arith
 
 -- ---- what the program's arguments ask
-map_asked : (x y : Num) → Asked (map_by x y)
-map_asked (Value o) (Value l) = tt
-map_asked (Value o) Bad = tt
-map_asked Bad y = tt
+map_asked : (x y : Option ℕ) → Asked (map_by x y)
+map_asked (Some o) (Some l) = tt
+map_asked (Some o) None = tt
+map_asked None y = tt
 
-walk_asked : (a : List ℕ) (x y z : Num) → number_of largest a ≡ x → Asked (walk_by (map_by x y) z)
-walk_asked a (Value o) (Value l) (Value p) e = (number_out largest a e).3
-walk_asked a (Value o) (Value l) Bad e = tt
-walk_asked a (Value o) Bad z e = tt
-walk_asked a Bad y z e = tt
+walk_asked : (a : List ℕ) (x y z : Option ℕ) → number_of largest a ≡ x → Asked (walk_by (map_by x y) z)
+walk_asked a (Some o) (Some l) (Some p) e = (number_out largest a e).3
+walk_asked a (Some o) (Some l) None e = tt
+walk_asked a (Some o) None z e = tt
+walk_asked a None y z e = tt
 
 pub command_asked : (n : ℕ) (mode a b c : List ℕ) → Asked (command_of n mode a b c)
 unfolding command_of range_of places_of

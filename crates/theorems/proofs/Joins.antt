@@ -1,6 +1,7 @@
 -- A walk into a list of a + b places is the walk into a places and, if that stopped with More, the walk into b places from where it stopped.
 -- By induction on a: both take the same steps until the first list is full.
 -- Assumes nothing.
+use Rattle.std.specs.Prelude.{Err, Ok, Result}
 use Prim.Native.Nat.{ℕ, zero, suc, ◌+◌, ◌-◌, ◌<◌, ◌≤◌, min}
 use native.Mathlib.Omega.{arith}
 use native.Mathlib.Nat.{add_assoc, suc-add}
@@ -11,10 +12,12 @@ use borrow.Author.Tests.{le-leb, lt-leb, leb-true, leb-false}
 use Rattle.lines.specs.Record.{most}
 use Rattle.tables.specs.declared.table.Table.{Table}
 use Rattle.tables.specs.declared.table.Piece.{Piece}
+use Rattle.tables.specs.declared.table.ShallowMapping.TheVariants.{Eof, Zero, Raw}
+use Rattle.tables.specs.declared.table.Stop.TheVariants.{Done, More}
 use Rattle.tables.specs.declared.table.ShallowMapping.{ShallowMapping}
-use Rattle.tables.specs.declared.table.ShallowMapping.TheVariants.{Eof, Zero, Raw, Refused}
 use Rattle.tables.specs.declared.table.Stop.{Stop}
-use Rattle.tables.specs.declared.table.Stop.TheVariants.{Done, More, Refused as Stopped}
+use Rattle.lines.specs.declared.record.Fault.{Fault}
+use Rattle.lines.specs.declared.record.Fault.TheVariants.{CountTooLarge}
 use Rattle.maps.specs.Map.{map_of}
 use Rattle.maps.specs.Walk.{Walk, ends, then, step, walk_from, walk_of}
 use Rattle.theorems.specs.Continuing.{go_on, parts_of, places_in, long_walk}
@@ -22,11 +25,11 @@ use Rattle.text.proofs.Flat.{by_test}
 use Rattle.theorems.proofs.Routes.{over_or_on, walk_full, walk_step}
 
 -- the position never falls
-up_step : (pos : ℕ) (m : ShallowMapping) (run n : ℕ) (after : Walk) → pos + run ≤ after.position → pos ≤ (step pos m run n after).position
-up_step pos Eof run n after h = omega arith
-up_step pos (Refused number) run n after h = omega arith
-up_step pos (Zero i) run n after h = omega arith
-up_step pos (Raw i at w) run n after h = omega arith
+up_step : (pos : ℕ) (m : Result ShallowMapping Fault) (run n : ℕ) (after : Walk) → pos + run ≤ after.position → pos ≤ (step pos m run n after).position
+up_step pos (Ok Eof) run n after h = omega arith
+up_step pos (Err number) run n after h = omega arith
+up_step pos (Ok (Zero i)) run n after h = omega arith
+up_step pos (Ok (Raw i at w)) run n after h = omega arith
 
 pub walk_up : (room : ℕ) (t : Table) (pos left : ℕ) → pos ≤ (walk_from room t pos left).position
 walk_up zero t pos left =
@@ -38,10 +41,10 @@ walk_up (suc room) t pos left =
     (up_step pos m.mapping m.run m.looked (walk_from room t (pos + m.run) (left - m.run)) (walk_up room t (pos + m.run) (left - m.run))))
 
 -- a step before a part is a step before the parts joined
-then_on : (p : Piece) (n : ℕ) (w : Walk) (s : Stop) (next : Walk) → then p n (go_on w s next) ≡ go_on (then p n w) s next
-then_on p n w Done next = refl
-then_on p n w More next = rw add_assoc
-then_on p n w (Stopped number) next = refl
+then_on : (p : Piece) (n : ℕ) (w : Walk) (s : Result Stop Fault) (next : Walk) → then p n (go_on w s next) ≡ go_on (then p n w) s next
+then_on p n w (Ok Done) next = refl
+then_on p n w (Ok More) next = rw add_assoc
+then_on p n w (Err number) next = refl
 
 -- what follows a part: the walk from where it stopped, with what is left
 abbrev on_from : ℕ → Table → ℕ → ℕ → Walk → Walk
@@ -52,11 +55,11 @@ join_then p pos left run n b t w h =
     let e : left - run - (w.position - (pos + run)) ≡ left - (w.position - pos) = omega arith in
     rw e (then_on p n w w.stop (walk_from b t w.position (left - (w.position - pos))))
 
-join_step : (pos left run n b : ℕ) (t : Table) (m : ShallowMapping) (w : Walk) → pos + run ≤ w.position → step pos m run n (on_from b t (pos + run) (left - run) w) ≡ on_from b t pos left (step pos m run n w)
-join_step pos left run n b t Eof w h = refl
-join_step pos left run n b t (Refused number) w h = refl
-join_step pos left run n b t (Zero i) w h = join_then _ pos left run n b t w h
-join_step pos left run n b t (Raw i at wr) w h = join_then _ pos left run n b t w h
+join_step : (pos left run n b : ℕ) (t : Table) (m : Result ShallowMapping Fault) (w : Walk) → pos + run ≤ w.position → step pos m run n (on_from b t (pos + run) (left - run) w) ≡ on_from b t pos left (step pos m run n w)
+join_step pos left run n b t (Ok Eof) w h = refl
+join_step pos left run n b t (Err number) w h = refl
+join_step pos left run n b t (Ok (Zero i)) w h = join_then _ pos left run n b t w h
+join_step pos left run n b t (Ok (Raw i at wr)) w h = join_then _ pos left run n b t w h
 
 pub join : (a b : ℕ) (t : Table) (pos left : ℕ) → walk_from (a + b) t pos left ≡ on_from b t pos left (walk_from a t pos left)
 join zero b t pos left =
@@ -72,13 +75,13 @@ join (suc a) b t pos left =
     rw (suc-add a b, walk_step t pos left c l (a + b), walk_step t pos left c l a, join a b t (pos + m.run) (left - m.run))
     (join_step pos left m.run m.looked b t m.mapping w (walk_up a t (pos + m.run) (left - m.run))))
 
-on_ended : (w : Walk) (s : Stop) (next : Walk) → (s ≡ More → ⊥) → go_on w s next ≡ w
-on_ended w Done next h = refl
-on_ended w More next h = absurd (h refl)
-on_ended w (Stopped number) next h = refl
+on_ended : (w : Walk) (s : Result Stop Fault) (next : Walk) → (s ≡ (Ok More) → ⊥) → go_on w s next ≡ w
+on_ended w (Ok Done) next h = refl
+on_ended w (Ok More) next h = absurd (h refl)
+on_ended w (Err number) next h = refl
 
 -- a walk that did not stop with More is the same with more places
-pub more_places : (a b : ℕ) (t : Table) (pos left : ℕ) → ((walk_from a t pos left).stop ≡ More → ⊥) → a ≤ b → walk_from b t pos left ≡ walk_from a t pos left
+pub more_places : (a b : ℕ) (t : Table) (pos left : ℕ) → ((walk_from a t pos left).stop ≡ (Ok More) → ⊥) → a ≤ b → walk_from b t pos left ≡ walk_from a t pos left
 more_places a b t pos left h l =
     let w = walk_from a t pos left in
     let e : b ≡ a + (b - a) = omega arith in
@@ -97,7 +100,7 @@ parts_from n (m ∷ ns) t pos left h =
     rw (walk_of_lem t n pos left h, parts_from m ns t w.position (left - (w.position - pos)) h)
     (sym (join (min n most) (places_in m ns) t pos left))
 
-pub parts_refused : (n : ℕ) (ns : List ℕ) (t : Table) (pos left : ℕ) → most < t.count → parts_of n ns t pos left ≡ ends (Stopped 23) pos 0
+pub parts_refused : (n : ℕ) (ns : List ℕ) (t : Table) (pos left : ℕ) → most < t.count → parts_of n ns t pos left ≡ ends (Err CountTooLarge) pos 0
 unfolding parts_of walk_of
 parts_refused n [] t pos left h = rw (lt-leb _ _ h)
 parts_refused n (m ∷ ns) t pos left h = rw (lt-leb _ _ h)

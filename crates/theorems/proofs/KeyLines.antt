@@ -1,5 +1,6 @@
 -- A line that is no extent line is cut at its first `=`, and the key decides what is said of the value.
 -- So what it sets is held as its value means it, and what refuses it is a fault of key or value.
+use Rattle.std.specs.Prelude.{Err, None, Ok, Option, Result, Some}
 use Prim.Native.Nat.{ℕ, zero, suc, ◌+◌, ◌-◌, ◌≤◌, ◌<◌}
 use native.Mathlib.Omega.{arith}
 use mathlib.Core.List.{List, [], ◌∷◌, ◌++◌}
@@ -16,10 +17,6 @@ use Rattle.text.specs.Lines.{count}
 use Rattle.text.specs.Number.{number_of}
 use Rattle.text.specs.Sector.{largest}
 use Rattle.text.specs.Text.{trim_of, trimmed}
-use Rattle.text.specs.declared.number.Num.{Num}
-use Rattle.text.specs.declared.number.Num.TheVariants.{Value, Bad}
-use Rattle.text.specs.declared.words.Trimmed.{Trimmed}
-use Rattle.text.specs.declared.words.Trimmed.TheVariants.{Range, Wrong}
 use Rattle.text.proofs.Flat.{by_test}
 use Rattle.text.proofs.Finds.{same_is}
 use Rattle.text.proofs.Bounds.{trim_within}
@@ -33,12 +30,14 @@ use Rattle.lines.specs.Extent.{part, no_access_line, extent_line}
 use Rattle.lines.specs.Line.{version_limit, version_by, version_of, geometry_of, geometry_by, geometry_line, value_of, key_line, access_word, access_line, first_blank, skipped, text_line, trimmed_line, line_of}
 use Rattle.lines.specs.declared.line.Setting.{Setting}
 use Rattle.lines.specs.declared.line.Setting.TheVariants.{Version as Is-as-Version, Cid as Is-as-Cid, ParentCid as Is-as-ParentCid, CreateType as Is-as-CreateType, Sectors as Is-as-Sectors, Heads as Is-as-Heads, Cylinders as Is-as-Cylinders}
-use Rattle.lines.specs.declared.line.Said.{Said}
-use Rattle.lines.specs.declared.line.Said.TheVariants.{Nothing, Extent, Set, Refused}
+use Rattle.lines.specs.declared.line.Said.TheVariants.{Nothing, Extent, Set}
 use Rattle.lines.specs.declared.line.AccessWord.{AccessWord}
 use Rattle.lines.specs.declared.line.AccessWord.TheVariants.{NoAccess, RdOnly, RW, Other}
 use Rattle.lines.specs.declared.record.VmdkAccessType.{VmdkAccessType}
 use Rattle.lines.specs.declared.record.VmdkAccessType.TheVariants.{RdOnly as ReadOnly, RW as ReadWrite}
+use Rattle.lines.specs.declared.line.Said.{Said}
+use Rattle.lines.specs.declared.record.Fault.{Fault}
+use Rattle.lines.specs.Fault.{refusal_number}
 use Rattle.theorems.specs.Statements.{access_text}
 use Rattle.theorems.specs.LineWords.{IsAccess, Item, version, cid, parent_cid, create_type, geometry, key_text, hint_key, UnknownKey, KeyLine, unquoted}
 use Rattle.theorems.specs.GivenWhen.{version_number, parent_hint, geometry_number, unknown_key}
@@ -193,12 +192,12 @@ module _ (d : List ℕ) (p : ℕ) (v : List ℕ) (i : Lies d p v) where
       let q : length (part v a e) ≡ e - a = simp (length-take, length-drop) (omega arith) in
       (kept_at_lem d p v i a e h k, w.0 ∙ sym q, w.1)
 
-  kept_by : (r : Trimmed) → trim_of v ≡ r → Holds d (text (kept_of p v)) (letters (trimmed v))
+  kept_by : (r : Option (ℕ × ℕ)) → trim_of v ≡ r → Holds d (text (kept_of p v)) (letters (trimmed v))
   unfolding kept_of trimmed
-  kept_by (Range a e) q = let w = trim_within v q in rw q (kept_part a e w.0 w.1)
-  kept_by Wrong q = rw q (refl, refl, λ z. refl)
+  kept_by (Some (a, e)) q = let w = trim_within v q in rw q (kept_part a e w.0 w.1)
+  kept_by None q = rw q (refl, refl, λ z. refl)
 
-strip_within : (t : List ℕ) → ((strip_of t).from ≤ (strip_of t).to) × ((strip_of t).to ≤ length t)
+strip_within : (t : List ℕ) → ((strip_of t).0 ≤ (strip_of t).1) × ((strip_of t).1 ≤ length t)
 unfolding strip_of
 strip_within t =
     by_test (quoted t)
@@ -211,28 +210,28 @@ strip_within t =
         (λ f. let g : false ≡ true = rw f at e in let z : ◌≡◌ {A = ℕ} 0 1 = cc in absurd (omega arith))
 
 module _ (d : List ℕ) (p : ℕ) (v : List ℕ) (i : Lies d p v) where
-  unquoted_by : (r : Trimmed) → trim_of v ≡ r → Holds d (text (unquoted_of p v)) (letters (unquoted (trimmed v)))
+  unquoted_by : (r : Option (ℕ × ℕ)) → trim_of v ≡ r → Holds d (text (unquoted_of p v)) (letters (unquoted (trimmed v)))
   unfolding unquoted_of trimmed
-  unquoted_by (Range a e) q =
+  unquoted_by (Some (a, e)) q =
       let w = trim_within v q in
       let s = strip_within (part v a e) in
-      rw q (kept_part d (p + a) (part v a e) (part_lies d p v i a e w.0 w.1) (strip_of (part v a e)).from (strip_of (part v a e)).to s.0 s.1)
-  unquoted_by Wrong q = rw q (unfold strip_of in (refl, refl, λ z. refl))
+      rw q (kept_part d (p + a) (part v a e) (part_lies d p v i a e w.0 w.1) (strip_of (part v a e)).0 (strip_of (part v a e)).1 s.0 s.1)
+  unquoted_by None q = rw q (unfold strip_of in (refl, refl, λ z. refl))
 
 -- what is set by a trimmed line t of d is what its value means, and a refusal of a line with a key has a fault of it
 module _ (d t : List ℕ) where
-  abbrev KeyFine : Said → Type 0
-  KeyFine (Refused n) = 12 ≤ n → Given t n
-  KeyFine (Set v) =
+  abbrev KeyFine : Result Said Fault → Type 0
+  KeyFine (Err n) = 12 ≤ refusal_number n → Given t n
+  KeyFine (Ok (Set v)) =
       (value : List ℕ) × KeyLine t (key_text (item_of v)) value × Holds d (held_of v) (meant (item_of v) value)
-  KeyFine Nothing = Unit {0}
-  KeyFine (Extent x) = Unit {0}
+  KeyFine (Ok Nothing) = Unit {0}
+  KeyFine (Ok (Extent x)) = Unit {0}
 
-  fine_extent : (s : Said) → OfExtent s → KeyFine s
-  fine_extent (Refused n) h = λ a. absurd (omega arith)
-  fine_extent (Set v) h = absurd h
-  fine_extent Nothing h = tt
-  fine_extent (Extent x) h = tt
+  fine_extent : (s : Result Said Fault) → OfExtent s → KeyFine s
+  fine_extent (Err n) h = λ a. absurd (omega arith)
+  fine_extent (Ok (Set v)) h = absurd h
+  fine_extent (Ok Nothing) h = tt
+  fine_extent (Ok (Extent x)) h = tt
 
 module _ (d : List ℕ) (p : ℕ) (t : List ℕ) (lies : Lies d p t) where
   -- with a key
@@ -254,15 +253,15 @@ module _ (d : List ℕ) (p : ℕ) (t : List ℕ) (lies : Lies d p t) where
     renamed : {key₂ : List ℕ} → key ≡ key₂ → KeyLine t key₂ value
     renamed q = subst (λ (x : List ℕ). KeyLine t x value) q k
 
-    version_fine : key ≡ key_text version → (n : Num) → number_of version_limit value ≡ n → KeyFine d t (version_by n)
-    version_fine q (Value v) e = (value, renamed q, e)
-    version_fine q Bad e = λ a. (version_number, refl, (value, renamed q, e))
+    version_fine : key ≡ key_text version → (n : Option ℕ) → number_of version_limit value ≡ n → KeyFine d t (version_by n)
+    version_fine q (Some v) e = (value, renamed q, e)
+    version_fine q None e = λ a. (version_number, refl, (value, renamed q, e))
 
-    geometry_fine : (g : Geometry) → key ≡ key_text (geometry g) → (n : Num) → number_of largest (unquoted value) ≡ n → KeyFine d t (geometry_by g n)
-    geometry_fine Sectors q (Value v) e = (value, renamed q, e)
-    geometry_fine Heads q (Value v) e = (value, renamed q, e)
-    geometry_fine Cylinders q (Value v) e = (value, renamed q, e)
-    geometry_fine g q Bad e = λ a. (geometry_number, refl, (g, value, renamed q, e))
+    geometry_fine : (g : Geometry) → key ≡ key_text (geometry g) → (n : Option ℕ) → number_of largest (unquoted value) ≡ n → KeyFine d t (geometry_by g n)
+    geometry_fine Sectors q (Some v) e = (value, renamed q, e)
+    geometry_fine Heads q (Some v) e = (value, renamed q, e)
+    geometry_fine Cylinders q (Some v) e = (value, renamed q, e)
+    geometry_fine g q None e = λ a. (geometry_number, refl, (g, value, renamed q, e))
 
     kept_value : Holds d (text (kept_of (p + from) k.after)) (letters value)
     kept_value = rw (← k.says) (kept_by d (p + from) k.after after_lies (trim_of k.after) refl)
@@ -304,19 +303,19 @@ module _ (d : List ℕ) (p : ℕ) (t : List ℕ) (lies : Lies d p t) where
       (λ b. rw (s, b) (access_fine s (access_word (take (first_blank t) t)) refl))
       (λ b. let h = ltb-false (first_blank t) (length t) b in rw (s, b) (key_fine s (λ g i. omega arith))))
 
-line_fine : (d : List ℕ) (p : ℕ) (l : List ℕ) → Lies d p l → (r : Trimmed) → trim_of l ≡ r → KeyFine d (trimmed l) (trimmed_line p l r)
-line_fine d p l i (Range a e) q =
+line_fine : (d : List ℕ) (p : ℕ) (l : List ℕ) → Lies d p l → (r : Option (ℕ × ℕ)) → trim_of l ≡ r → KeyFine d (trimmed l) (trimmed_line p l r)
+line_fine d p l i (Some (a, e)) q =
     let w = trim_within l q in
     rw (← range_is l q) (text_fine d (p + a) (part l a e) (part_lies d p l i a e w.0 w.1))
-line_fine d p l i Wrong q = λ a. absurd (omega arith)
+line_fine d p l i None q = λ a. absurd (omega arith)
 
 -- a line that is refused with a number of a key has its fault
-pub key_given : (p : ℕ) (l : List ℕ) (n : ℕ) → 12 ≤ n → line_of p l ≡ Refused n → Given (trimmed l) n
+pub key_given : (p : ℕ) (l : List ℕ) (n : Fault) → 12 ≤ refusal_number n → line_of p l ≡ Err n → Given (trimmed l) n
 unfolding line_of
 key_given p l n a h =
     subst (KeyFine (replicate p 0 ++ l) (trimmed l)) h (line_fine (replicate p 0 ++ l) p l (behind p l) (trim_of l) refl) a
 
 -- a line that sets a value has its key, and sets what its value means
-pub key_sets : (d : List ℕ) (p : ℕ) (l : List ℕ) (v : Setting) → Lies d p l → line_of p l ≡ Set v → (value : List ℕ) × KeyLine (trimmed l) (key_text (item_of v)) value × Holds d (held_of v) (meant (item_of v) value)
+pub key_sets : (d : List ℕ) (p : ℕ) (l : List ℕ) (v : Setting) → Lies d p l → line_of p l ≡ Ok (Set v) → (value : List ℕ) × KeyLine (trimmed l) (key_text (item_of v)) value × Holds d (held_of v) (meant (item_of v) value)
 unfolding line_of
 key_sets d p l v i h = subst (KeyFine d (trimmed l)) h (line_fine d p l i (trim_of l) refl)

@@ -1,5 +1,6 @@
 -- A line sets one value and leaves the others, so after some lines each value is what the last line with its key set.
 -- By recursion on the lines: what a later line sets stands, and else what this one does.
+use Rattle.std.specs.Prelude.{Err, None, Ok, Option, Result, Some}
 use Prim.Native.Nat.{ℕ, suc, ◌+◌}
 use native.Mathlib.Omega.{arith}
 use mathlib.Core.List.{List, [], ◌∷◌, ◌++◌}
@@ -13,8 +14,6 @@ use borrow.Author.Tests.{eqb-true, eqb-false}
 use Rattle.text.specs.Lines.{lines_of}
 use Rattle.text.specs.Number.{number_of}
 use Rattle.text.specs.Text.{trim_of, trimmed}
-use Rattle.text.specs.declared.number.Num.{Num}
-use Rattle.text.specs.declared.number.Num.TheVariants.{Value, Bad}
 use Rattle.text.proofs.Flat.{by_test}
 use Rattle.keys.specs.declared.key.Geometry.{Geometry}
 use Rattle.keys.specs.declared.key.Geometry.TheVariants.{Sectors, Heads, Cylinders}
@@ -23,10 +22,11 @@ use Rattle.lines.specs.Line.{version_limit, version_by, version_of, geometry_by,
 use Rattle.descriptor.specs.Read.{set_of, read_of}
 use Rattle.lines.specs.declared.line.Setting.{Setting}
 use Rattle.lines.specs.declared.line.Setting.TheVariants.{Version as Is-as-Version, Cid as Is-as-Cid, ParentCid as Is-as-ParentCid, CreateType as Is-as-CreateType, Sectors as Is-as-Sectors, Heads as Is-as-Heads, Cylinders as Is-as-Cylinders}
-use Rattle.lines.specs.declared.line.Said.{Said}
-use Rattle.lines.specs.declared.line.Said.TheVariants.{Nothing, Extent, Set, Refused}
-use Rattle.lines.specs.declared.record.Verdict.TheVariants.{Sound}
+use Rattle.lines.specs.declared.line.Said.TheVariants.{Nothing, Extent, Set}
 use Rattle.lines.specs.declared.record.VmdkDesc.{VmdkDesc}
+use Rattle.lines.specs.declared.line.Said.{Said}
+use Rattle.lines.specs.declared.record.Fault.{Fault}
+use Rattle.lines.specs.declared.record.Fault.TheVariants.{VersionNumber, GeometryNumber}
 use Rattle.theorems.specs.Statements.{LineAt, place_after, sayings, sayings_of, refuses}
 use Rattle.theorems.specs.LineWords.{Item, version, cid, parent_cid, create_type, geometry, key_text, KeyLine}
 use Rattle.theorems.specs.Values.{Held, number, text, held_in, start_of, meant, Holds, NoneHas, LastLine, LastSaid}
@@ -96,22 +96,22 @@ set_by v i f g =
     (λ r. held_at (set_of r v) i ∙ rw (set_values r v).0 (get_or-set_other (values r) (rank (item_of v)) (rank i) (held_of v) (number 0) n) ∙ sym (held_at r i)))
 
 -- ---- a line with an item's key that is not refused sets it
-abbrev Sets : Item → Said → Type 0
-Sets i s = (v : Setting) × (s ≡ Set v) × (item_of v ≡ i)
+abbrev Sets : Item → Result Said Fault → Type 0
+Sets i s = (v : Setting) × (s ≡ Ok (Set v)) × (item_of v ≡ i)
 
-refused_never : {C : Type 0} (n : ℕ) → refuses (Refused n ∷ []) ≡ false → C
+refused_never : {C : Type 0} (n : Fault) → refuses (Err n ∷ []) ≡ false → C
 unfolding refuses
 refused_never n h = let z : ◌≡◌ {A = ℕ} 0 1 = cc in absurd (omega arith)
 
-sets_version : (n : Num) → refuses (version_by n ∷ []) ≡ false → Sets version (version_by n)
-sets_version (Value v) h = (Is-as-Version v, refl, refl)
-sets_version Bad h = refused_never 12 h
+sets_version : (n : Option ℕ) → refuses (version_by n ∷ []) ≡ false → Sets version (version_by n)
+sets_version (Some v) h = (Is-as-Version v, refl, refl)
+sets_version None h = refused_never VersionNumber h
 
-sets_geometry : (g : Geometry) (n : Num) → refuses (geometry_by g n ∷ []) ≡ false → Sets (geometry g) (geometry_by g n)
-sets_geometry Sectors (Value v) h = (Is-as-Sectors v, refl, refl)
-sets_geometry Heads (Value v) h = (Is-as-Heads v, refl, refl)
-sets_geometry Cylinders (Value v) h = (Is-as-Cylinders v, refl, refl)
-sets_geometry g Bad h = refused_never 14 h
+sets_geometry : (g : Geometry) (n : Option ℕ) → refuses (geometry_by g n ∷ []) ≡ false → Sets (geometry g) (geometry_by g n)
+sets_geometry Sectors (Some v) h = (Is-as-Sectors v, refl, refl)
+sets_geometry Heads (Some v) h = (Is-as-Heads v, refl, refl)
+sets_geometry Cylinders (Some v) h = (Is-as-Cylinders v, refl, refl)
+sets_geometry g None h = refused_never GeometryNumber h
 
 sets_value : (i : Item) (p : ℕ) (v : List ℕ) → refuses (value_of (item_key i) p v ∷ []) ≡ false → Sets i (value_of (item_key i) p v)
 unfolding value_of version_of geometry_line
@@ -136,7 +136,7 @@ record Last (p : ℕ) (ls : List (List ℕ)) (i : Item) (h : Held) : Type 0 wher
   after : List (List ℕ)
   lines : ls ≡ before ++ line ∷ after
   setting : Setting
-  sets : line_of (place_after p before) line ≡ Set setting
+  sets : line_of (place_after p before) line ≡ Ok (Set setting)
   item : item_of setting ≡ i
   held : held_of setting ≡ h
   later : NoneHas (key_text i) after
@@ -165,13 +165,13 @@ module _ (p : ℕ) (l : List ℕ) (ls : List (List ℕ)) (i : Item) where
       }
 
   -- a line that leaves the item
-  leaves : {h : Held} (r r₂ : VmdkDesc) → held_in r₂ i ≡ held_in r i → ((v : Setting) → line_of p l ≡ Set v → item_of v ≡ i → ⊥) → refuses (line_of p l ∷ []) ≡ false → After next ls i r₂ h → After p (l ∷ ls) i r h
+  leaves : {h : Held} (r r₂ : VmdkDesc) → held_in r₂ i ≡ held_in r i → ((v : Setting) → line_of p l ≡ Ok (Set v) → item_of v ≡ i → ⊥) → refuses (line_of p l ∷ []) ≡ false → After next ls i r₂ h → After p (l ∷ ls) i r h
   leaves r r₂ q n f (inl a) =
       inl ((λ value k. let s = sets_line p l i value f k in n s.0 s.1 s.2, a.0), a.1 ∙ q)
   leaves r r₂ q n f (inr a) = inr (shift a)
 
   -- a line that sets it
-  sets_it : {h : Held} (r : VmdkDesc) (v : Setting) → line_of p l ≡ Set v → item_of v ≡ i → After next ls i (set_of r v) h → After p (l ∷ ls) i r h
+  sets_it : {h : Held} (r : VmdkDesc) (v : Setting) → line_of p l ≡ Ok (Set v) → item_of v ≡ i → After next ls i (set_of r v) h → After p (l ∷ ls) i r h
   unfolding place_after
   sets_it r v e q (inl a) =
       inr (record {
@@ -187,16 +187,16 @@ module _ (p : ℕ) (l : List ℕ) (ls : List (List ℕ)) (i : Item) where
       })
   sets_it r v e q (inr a) = inr (shift a)
 
-  after_by : (r : VmdkDesc) (ss : List Said) (s : Said) → line_of p l ≡ s → refuses (s ∷ []) ≡ false → ((r : VmdkDesc) → After next ls i r (held_in (set_all r ss) i)) → After p (l ∷ ls) i r (held_in (set_all r (s ∷ ss)) i)
+  after_by : (r : VmdkDesc) (ss : List (Result Said Fault)) (s : Result Said Fault) → line_of p l ≡ s → refuses (s ∷ []) ≡ false → ((r : VmdkDesc) → After next ls i r (held_in (set_all r ss) i)) → After p (l ∷ ls) i r (held_in (set_all r (s ∷ ss)) i)
   unfolding set_all
-  after_by r ss Nothing e f g =
-      leaves r r refl (λ v q n. let c : Nothing ≡ Set v = sym e ∙ q in let z : ◌≡◌ {A = ℕ} 0 1 = cc in omega arith) (rw e f) (g r)
-  after_by r ss (Extent x) e f g =
-      leaves r r refl (λ v q n. let c : Extent x ≡ Set v = sym e ∙ q in let z : ◌≡◌ {A = ℕ} 0 1 = cc in omega arith) (rw e f) (g r)
-  after_by r ss (Refused m) e f g = refused_never m f
-  after_by r ss (Set v) e f g =
+  after_by r ss (Ok Nothing) e f g =
+      leaves r r refl (λ v q n. let c : (Ok Nothing) ≡ Ok (Set v) = sym e ∙ q in let z : ◌≡◌ {A = ℕ} 0 1 = cc in omega arith) (rw e f) (g r)
+  after_by r ss (Ok (Extent x)) e f g =
+      leaves r r refl (λ v q n. let c : Ok (Extent x) ≡ Ok (Set v) = sym e ∙ q in let z : ◌≡◌ {A = ℕ} 0 1 = cc in omega arith) (rw e f) (g r)
+  after_by r ss (Err m) e f g = refused_never m f
+  after_by r ss (Ok (Set v)) e f g =
       set_by v i (λ q. sets_it r v e q (g (set_of r v)))
-      (λ n q. leaves r (set_of r v) (q r) (λ w u k. let c : Set v ≡ Set w = sym e ∙ u in let y : v ≡ w = cc in n (ap item_of y ∙ k)) (rw e f) (g (set_of r v)))
+      (λ n q. leaves r (set_of r v) (q r) (λ w u k. let c : Ok (Set v) ≡ Ok (Set w) = sym e ∙ u in let y : v ≡ w = cc in n (ap item_of y ∙ k)) (rw e f) (g (set_of r v)))
 
 after_lines : (p : ℕ) (ls : List (List ℕ)) (i : Item) (r : VmdkDesc) → refuses (sayings p ls) ≡ false → After p ls i r (held_in (set_all r (sayings p ls)) i)
 unfolding sayings
@@ -237,6 +237,6 @@ module _ (d : List ℕ) (i : Item) where
   last_by h (inr a) = inr (last_line h a)
 
   -- its record holds, for each key, what the last line with it says
-  pub last_held : (read_of d).verdict ≡ Sound → LastSaid d i (held_in (read_of d).descriptor.desc i)
+  pub last_held : (read_of d).verdict ≡ (Ok tt) → LastSaid d i (held_in (read_of d).descriptor.desc i)
   last_held e =
       rw (accepted_checked d e).1 (last_by (held_in (set_all no_desc (sayings_of d)) i) (after_lines 0 (lines_of d) i no_desc (accepted_lines d e).1.0))

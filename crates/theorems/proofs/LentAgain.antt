@@ -1,6 +1,7 @@
 -- What a lent record counts is what is read, and what a lent table counts is what is built from it, whatever the places past the counts hold; so the table in hand is of the same disk as the one of the descriptor alone.
 -- Tables of the same disk map and walk alike, and names are asked of counted rows only, so each law of that one table is a law of the table in hand.
 -- What is stored of the lines is by recursion on those before the refused one: sound lines say their extents, and there it ends, or the room does.
+use Rattle.std.specs.Prelude.{Err, Ok, Result}
 use Prim.Native.Nat.{ℕ, zero, suc, ◌+◌, ◌≤◌, min}
 use native.Mathlib.Omega.{arith}
 use mathlib.Core.List.{List, [], ◌∷◌, ◌++◌, append-nil}
@@ -17,23 +18,22 @@ use Rattle.text.specs.declared.sector.Bytes.{Bytes}
 use Rattle.text.proofs.Flat.{by_test, pick_same}
 use Rattle.lines.specs.Record.{most, most_bytes, at_line, read_in, over, no_record}
 use Rattle.lines.specs.Line.{line_of}
-use Rattle.lines.specs.declared.line.Said.{Said}
-use Rattle.lines.specs.declared.line.Said.TheVariants.{Nothing, Extent, Set, Refused}
+use Rattle.lines.specs.declared.line.Said.TheVariants.{Nothing, Extent, Set}
 use Rattle.lines.specs.declared.record.Record.{Record}
 use Rattle.lines.specs.declared.record.Refusal.{Refusal}
-use Rattle.lines.specs.declared.record.Verdict.TheVariants.{Sound, Refused as Stopped}
 use Rattle.lines.specs.declared.record.ReadExtent.{ReadExtent}
 use Rattle.lines.specs.declared.record.VmdkParsedExtent.{VmdkParsedExtent}
 use Rattle.lines.proofs.Overs.{over_first, over_past, over_length}
 use Rattle.descriptor.specs.Read.{least_bytes, sparse, read_of}
 use Rattle.descriptor.specs.Into.{then_said, said_before, stored_of, read_into}
 use Rattle.descriptor.proofs.Intos.{stored_few as read_few, refused_none as Read-none, sound_count, into_desc, into_count as read_count, into_read as read_same}
-use Rattle.tables.specs.declared.table.Built.{Built}
 use Rattle.tables.specs.declared.table.Mapping.{Mapping}
 use Rattle.tables.specs.declared.table.Stop.TheVariants.{Done}
 use Rattle.tables.specs.declared.table.Table.{Table}
+use Rattle.lines.specs.declared.line.Said.{Said}
+use Rattle.lines.specs.declared.record.Fault.{Fault}
 use Rattle.maps.specs.Alike.{AlikeTables, SameTable}
-use Rattle.tables.specs.Build.{no_table, rows_from, build_of}
+use Rattle.tables.specs.Build.{Built, no_table, rows_from, build_of}
 use Rattle.tables.specs.Into.{stored_rows, build_into}
 use Rattle.tables.proofs.Into.{refused_none, stored_few, stored_sound, into_size, into_count, into_counted, build_same}
 use Rattle.maps.specs.Map.{ended, map_of}
@@ -55,15 +55,15 @@ none_maps : (o asked : ℕ) → map_of no_table o asked ≡ ended 0
 unfolding map_of
 none_maps o asked = rw (le-leb 0 o (omega arith))
 
-none_over : (pos left : ℕ) (go : Walk) → unless_over no_table pos left go ≡ ends Done pos 0
-none_over pos left go = rw (le-leb 0 pos (omega arith)) (pick_same (eqb left 0) (ends Done pos 0))
+none_over : (pos left : ℕ) (go : Walk) → unless_over no_table pos left go ≡ ends (Ok Done) pos 0
+none_over pos left go = rw (le-leb 0 pos (omega arith)) (pick_same (eqb left 0) (ends (Ok Done) pos 0))
 
-none_from : (room pos left : ℕ) → walk_from room no_table pos left ≡ ends Done pos 0
+none_from : (room pos left : ℕ) → walk_from room no_table pos left ≡ ends (Ok Done) pos 0
 unfolding walk_from
 none_from zero pos left = none_over pos left _
 none_from (suc room) pos left = none_over pos left _
 
-none_walks : (places pos left : ℕ) → walk_of no_table places pos left ≡ ends Done pos 0
+none_walks : (places pos left : ℕ) → walk_of no_table places pos left ≡ ends (Ok Done) pos 0
 unfolding walk_of
 none_walks places pos left = none_from (min places most) pos left
 
@@ -107,12 +107,12 @@ module _ (d : List ℕ) (r : Record) (t : Table) where
   alike_hand = table_same.alike
 
   -- a refusal's table is the empty one
-  fresh_none : (x : Refusal) → ((read_of d).verdict ≡ Stopped x) ⊎ ((build_of (read_into d r)).verdict ≡ Stopped x) → fresh d ≡ no_table
+  fresh_none : (x : Refusal) → ((read_of d).verdict ≡ Err x) ⊎ ((build_of (read_into d r)).verdict ≡ Err x) → fresh d ≡ no_table
   fresh_none x (inl e) = ap (λ (z : Record). (build_of z).table) (Read-none d x e) ∙ none_builds
   fresh_none x (inr e) = refused_none (read_of d).descriptor x (sym verdict_same ∙ e)
 
   -- the descriptor alone builds its table
-  builds : (build_of (read_into d r)).verdict ≡ Sound → Builds (read_of d).descriptor (fresh d)
+  builds : (build_of (read_into d r)).verdict ≡ (Ok tt) → Builds (read_of d).descriptor (fresh d)
   builds b = sound_build (read_of d).descriptor (sym verdict_same ∙ b)
 
   maps_in_hand : (xs : List VmdkParsedExtent) (o asked : ℕ) → MapsBy xs (fresh d) o asked → MapsBy xs (in_hand d r t) o asked
@@ -121,7 +121,7 @@ module _ (d : List ℕ) (r : Record) (t : Table) where
       record { end = h.end; mapping = ap (λ (m : Mapping). m.mapping) e ∙ h.mapping; run = ap (λ (m : Mapping). m.run) e ∙ h.run }
 
   -- where the laws of mapping and of the walk hold of the table of the descriptor alone, all holds of what is in hand
-  pub lent_alike : ((read_of d).verdict ≡ Sound → Builds (read_of d).descriptor (fresh d) → (o asked : ℕ) → MapsBy (extents_in (sayings_of d)) (fresh d) o asked) → ((read_of d).verdict ≡ Sound → Builds (read_of d).descriptor (fresh d) → Reachable (extents_in (sayings_of d)) → (places start long : ℕ) → most ≤ places → Tiles (extents_in (sayings_of d)) start long (walk_of (fresh d) places start long)) → LentAgain d r t
+  pub lent_alike : ((read_of d).verdict ≡ (Ok tt) → Builds (read_of d).descriptor (fresh d) → (o asked : ℕ) → MapsBy (extents_in (sayings_of d)) (fresh d) o asked) → ((read_of d).verdict ≡ (Ok tt) → Builds (read_of d).descriptor (fresh d) → Reachable (extents_in (sayings_of d)) → (places start long : ℕ) → most ≤ places → Tiles (extents_in (sayings_of d)) start long (walk_of (fresh d) places start long)) → LentAgain d r t
   lent_alike m w =
       let walks = walk_alike (in_hand d r t) (fresh d) alike_hand in
       record {
@@ -143,12 +143,12 @@ stored_over had list l few = record { long = over_length list had (omega (arith,
 
 -- ---- what is stored of the lines
 -- sound lines say their extents, before what the lines after them say
-said_one : (k : ℕ) (s : Said) (ss : List Said) (rest more : List ReadExtent) → refuses (s ∷ ss) ≡ false → (refuses ss ≡ false → rest ≡ read_from (suc k) ss ++ more) → then_said k s rest ≡ read_from k (s ∷ ss) ++ more
+said_one : (k : ℕ) (s : Result Said Fault) (ss : List (Result Said Fault)) (rest more : List ReadExtent) → refuses (s ∷ ss) ≡ false → (refuses ss ≡ false → rest ≡ read_from (suc k) ss ++ more) → then_said k s rest ≡ read_from k (s ∷ ss) ++ more
 unfolding refuses read_from
-said_one k Nothing ss rest more h g = g h
-said_one k (Set v) ss rest more h g = g h
-said_one k (Extent x) ss rest more h g = ap (λ (xs : List ReadExtent). at_line k x ∷ xs) (g h)
-said_one k (Refused n) ss rest more h g = let z : ◌≡◌ {A = ℕ} 0 1 = cc in absurd (omega arith)
+said_one k (Ok Nothing) ss rest more h g = g h
+said_one k (Ok (Set v)) ss rest more h g = g h
+said_one k (Ok (Extent x)) ss rest more h g = ap (λ (xs : List ReadExtent). at_line k x ∷ xs) (g h)
+said_one k (Err n) ss rest more h g = let z : ◌≡◌ {A = ℕ} 0 1 = cc in absurd (omega arith)
 
 said_all : (k p : ℕ) (before ls : List (List ℕ)) → refuses (sayings p before) ≡ false → said_before k p (before ++ ls) ≡ read_from k (sayings p before) ++ said_before (k + length before) (place_after p before) ls
 unfolding said_before sayings place_after read_from
@@ -162,11 +162,11 @@ said_all k p (l ∷ before) ls h =
 cut_end : (xs : List ReadExtent) → length xs ≤ most → take most (xs ++ []) ≡ xs
 cut_end xs h = rw (append-nil xs) (take_all most xs h)
 
-cut_refused : (n k : ℕ) (s : Said) (xs rest : List ReadExtent) → length xs ≤ most → RefusedWith n (length xs) s → take most (xs ++ then_said k s rest) ≡ xs
-cut_refused n k Nothing xs rest h r = absurd r
-cut_refused n k (Set v) xs rest h r = absurd r
-cut_refused n k (Refused m) xs rest h r = cut_end xs h
-cut_refused n k (Extent x) xs rest h r = ap (λ (j : ℕ). take j (xs ++ at_line k x ∷ rest)) (sym r.1) ∙ take-append_seam xs (at_line k x ∷ rest)
+cut_refused : (n : Fault) (k : ℕ) (s : Result Said Fault) (xs rest : List ReadExtent) → length xs ≤ most → RefusedWith n (length xs) s → take most (xs ++ then_said k s rest) ≡ xs
+cut_refused n k (Ok Nothing) xs rest h r = absurd r
+cut_refused n k (Ok (Set v)) xs rest h r = absurd r
+cut_refused n k (Err m) xs rest h r = cut_end xs h
+cut_refused n k (Ok (Extent x)) xs rest h r = ap (λ (j : ℕ). take j (xs ++ at_line k x ∷ rest)) (sym r.1) ∙ take-append_seam xs (at_line k x ∷ rest)
 
 stored_by_line : (d : List ℕ) → ByLine d → stored_of d ≡ take most (said_before 1 0 (lines_of d))
 unfolding stored_of
@@ -178,7 +178,7 @@ stored_whole d b a =
     stored_by_line d b ∙ ap (λ (ls : List (List ℕ)). take most (said_before 1 0 ls)) (sym (append-nil (lines_of d)))
     ∙ ap (take most) (said_all 1 0 (lines_of d) [] a.0) ∙ cut_end (read_from 1 (sayings_of d)) (rw (read_length 1 (sayings_of d)) a.1)
 
-stored_before : (d l : List ℕ) (n k : ℕ) → ByLine d → (f : FirstRefused d l n k) → stored_of d ≡ read_from 1 (sayings 0 f.before)
+stored_before : (d l : List ℕ) (n : Fault) (k : ℕ) → ByLine d → (f : FirstRefused d l n k) → stored_of d ≡ read_from 1 (sayings 0 f.before)
 unfolding said_before
 stored_before d l n k b f =
     let p = place_after 0 f.before in

@@ -7,6 +7,7 @@ pub mod Digits
 pub mod Encodings
 pub mod Enough
 pub mod ExtentLines
+pub mod Faults
 pub mod Fits
 pub mod Halving
 pub mod Joins

@@ -1,6 +1,7 @@
 -- The first no-access byte lies after every byte that can be read, and not after any that is locked.
 -- Every mapping looks at no more than 11 rows, so a walk looks at 11 for each piece, and at 11 more where it is refused.
 -- Assumes nothing.
+use Rattle.std.specs.Prelude.{Err, Ok, Result}
 use Prim.Native.Nat.{ℕ, zero, suc, ◌+◌, ◌-◌, ◌*◌, ◌<◌, ◌≤◌, min, max}
 use native.Mathlib.Omega.{arith}
 use mathlib.Core.List.{List}
@@ -12,10 +13,12 @@ use lib.Dec.{eqb, leb}
 use borrow.Author.Tests.{leb-true, leb-false, eqb-true, eqb-false}
 use Rattle.lines.specs.declared.record.VmdkParsedExtent.{VmdkParsedExtent}
 use Rattle.tables.specs.declared.table.Table.{Table}
+use Rattle.tables.specs.declared.table.ShallowMapping.TheVariants.{Eof, Zero, Raw}
+use Rattle.tables.specs.declared.table.Stop.TheVariants.{Done}
 use Rattle.tables.specs.declared.table.ShallowMapping.{ShallowMapping}
-use Rattle.tables.specs.declared.table.ShallowMapping.TheVariants.{Eof, Zero, Raw, Refused}
 use Rattle.tables.specs.declared.table.Stop.{Stop}
-use Rattle.tables.specs.declared.table.Stop.TheVariants.{Done, Refused as Stopped}
+use Rattle.lines.specs.declared.record.Fault.{Fault}
+use Rattle.lines.specs.declared.record.Fault.TheVariants.{Inaccessible}
 use Rattle.maps.specs.Map.{map_of}
 use Rattle.maps.specs.Place.{size_of, place_of}
 use Rattle.maps.specs.Walk.{Walk, step, walk_from}
@@ -85,16 +88,16 @@ module _ (xs : List VmdkParsedExtent) where
       go (inr h) = inr (omega arith)
 
   -- the two ways in which a walk ends
-  abbrev Ended : ℕ → ℕ → ℕ → Stop → Type 0
+  abbrev Ended : ℕ → ℕ → ℕ → Result Stop Fault → Type 0
   Ended start hi q s =
-      ((s ≡ Done) × (q ≡ max start (min hi (size_of xs)))) ⊎ ((s ≡ Stopped 21) × (q < min hi (size_of xs)) × (is_locked (place_of xs q) ≡ true))
+      ((s ≡ (Ok Done)) × (q ≡ max start (min hi (size_of xs)))) ⊎ ((s ≡ Err Inaccessible) × (q < min hi (size_of xs)) × (is_locked (place_of xs q) ≡ true))
 
-  ended : (start hi q : ℕ) (s : Stop) → Why 0 0 xs start hi s q → Ended start hi q s
+  ended : (start hi q : ℕ) (s : Result Stop Fault) → Why 0 0 xs start hi s q → Ended start hi q s
   unfolding place_of
   ended start hi q s (inl e) = inl (e.0, omega arith)
   ended start hi q s (inr e) = let g : q - 0 ≡ q = omega arith in inr (e.0, omega arith, rw g at e.2)
 
-  module _ (start hi q : ℕ) (s : Stop) (r : Reached 0 0 xs start hi s q) where
+  module _ (start hi q : ℕ) (s : Result Stop Fault) (r : Reached 0 0 xs start hi s q) where
     free : Free start q
     unfolding place_of
     free o a b = let e : o - 0 ≡ o = omega arith in rw e at (r.free o a b)
@@ -119,30 +122,30 @@ module _ (xs : List VmdkParsedExtent) where
     position_is = position_by (ended start hi q s r.why)
 
     -- (f)
-    refused_by : Ended start hi q s → s ≡ Stopped 21 ↔ Meets xs start hi
+    refused_by : Ended start hi q s → s ≡ Err Inaccessible ↔ Meets xs start hi
     refused_by (inl e) =
         (λ k. let z : ◌≡◌ {A = ℕ} 0 1 = cc in absurd (omega arith), λ m. absurd (two_tests m.0 m.3 (free m.0 m.1 (omega (arith, e.1, m.1, m.2)))))
     refused_by (inr e) = (λ k. (q, r.up, e.1, e.2), λ m. e.0)
 
-    otherwise_by : Ended start hi q s → (s ≡ Stopped 21) ⊎ (s ≡ Done)
+    otherwise_by : Ended start hi q s → (s ≡ Err Inaccessible) ⊎ (s ≡ (Ok Done))
     otherwise_by (inl e) = inr e.0
     otherwise_by (inr e) = inl e.0
 
-    pub refused_is : s ≡ Stopped 21 ↔ Meets xs start hi
+    pub refused_is : s ≡ Err Inaccessible ↔ Meets xs start hi
     refused_is = refused_by (ended start hi q s r.why)
 
-    pub otherwise_is : (s ≡ Stopped 21) ⊎ (s ≡ Done)
+    pub otherwise_is : (s ≡ Err Inaccessible) ⊎ (s ≡ (Ok Done))
     otherwise_is = otherwise_by (ended start hi q s r.why)
 
 -- (g), of any table
 abbrev pub Few : Walk → Type 0
 Few w = w.looked ≤ 11 * length w.pieces + 11
 
-few_step : (pos : ℕ) (m : ShallowMapping) (run n : ℕ) (after : Walk) → n ≤ 11 → Few after → Few (step pos m run n after)
-few_step pos Eof run n after h f = omega arith
-few_step pos (Refused number) run n after h f = omega arith
-few_step pos (Zero i) run n after h f = omega arith
-few_step pos (Raw i at w) run n after h f = omega arith
+few_step : (pos : ℕ) (m : Result ShallowMapping Fault) (run n : ℕ) (after : Walk) → n ≤ 11 → Few after → Few (step pos m run n after)
+few_step pos (Ok Eof) run n after h f = omega arith
+few_step pos (Err number) run n after h f = omega arith
+few_step pos (Ok (Zero i)) run n after h f = omega arith
+few_step pos (Ok (Raw i at w)) run n after h f = omega arith
 
 pub walk_few : (room : ℕ) (t : Table) (pos left : ℕ) → Few (walk_from room t pos left)
 walk_few zero t pos left =

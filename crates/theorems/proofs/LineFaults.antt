@@ -1,5 +1,6 @@
 -- The words of a line fix each test that reading makes of it, one after the other, and so what it says.
 -- With the other way (ExtentLines and KeyLines) a line is refused with a number exactly if it has the number's fault, and says an extent exactly if its words are that extent's.
+use Rattle.std.specs.Prelude.{Err, None, Ok, Option, Result, Some}
 use Prim.Native.Nat.{ℕ, zero, suc, ◌+◌, ◌≤◌, ◌<◌}
 use native.Mathlib.Omega.{arith}
 use mathlib.Core.List.{List, [], ◌∷◌, ◌++◌}
@@ -18,14 +19,7 @@ use Rattle.text.specs.Number.{number_of}
 use Rattle.text.specs.Sector.{sectors_of, largest}
 use Rattle.text.specs.Text.{trim_of, trimmed, word_of}
 use Rattle.theorems.specs.Unicode.{scalars, encode_all}
-use Rattle.text.specs.declared.number.Num.TheVariants.{Bad as Num-as-Bad}
 use Rattle.text.specs.declared.sector.Sectors.{Sectors}
-use Rattle.text.specs.declared.sector.SectorCount.{SectorCount}
-use Rattle.text.specs.declared.sector.SectorCount.TheVariants.{Count as Sectors-as-Count, Bad as Sectors-as-Bad}
-use Rattle.text.specs.declared.words.Trimmed.{Trimmed}
-use Rattle.text.specs.declared.words.Trimmed.TheVariants.{Range, Wrong}
-use Rattle.text.specs.declared.words.Word.TheVariants.{None}
-use Rattle.text.specs.declared.find.Place.TheVariants.{Here}
 use Rattle.text.proofs.Flat.{by_test}
 use Rattle.lines.specs.Record.{most, no_text, refusal}
 use Rattle.descriptor.specs.Read.{read_of}
@@ -34,18 +28,21 @@ use Rattle.lines.specs.Extent.{counted_word, second_of, third_of, file_name_of, 
 use Rattle.lines.specs.Line.{version_of, geometry_line, geometry_of, version_limit, value_of, access_word, access_line, first_blank, skipped, text_line, line_of}
 use Rattle.keys.specs.declared.key.Geometry.{Geometry}
 use Rattle.lines.specs.declared.extent.Third.{Third}
-use Rattle.lines.specs.declared.extent.Third.TheVariants.{Missing, Zero, Flat, Unsupported}
-use Rattle.lines.specs.declared.line.Said.{Said}
-use Rattle.lines.specs.declared.line.Said.TheVariants.{Nothing, Extent, Set, Refused}
+use Rattle.lines.specs.declared.extent.Third.TheVariants.{Zero, Flat}
+use Rattle.lines.specs.declared.line.Said.TheVariants.{Nothing, Extent, Set}
 use Rattle.lines.specs.declared.record.Text.{Text}
 use Rattle.lines.specs.declared.record.VmdkAccessType.{VmdkAccessType}
 use Rattle.lines.specs.declared.record.VmdkAccessType.TheVariants.{RdOnly as ReadOnly, RW as ReadWrite}
 use Rattle.lines.specs.declared.record.VmdkParsedExtent.{VmdkParsedExtent}
 use Rattle.lines.specs.declared.record.VmdkParsedStorage.{VmdkParsedStorage}
 use Rattle.lines.specs.declared.record.VmdkParsedStorage.TheVariants.{NoAccess, Zero as Zeros, Flat as File}
+use Rattle.lines.specs.declared.line.Said.{Said}
+use Rattle.lines.specs.declared.record.Fault.{Fault}
+use Rattle.lines.specs.declared.record.Fault.TheVariants.{SectorCount, VersionNumber, ParentHint, GeometryNumber, OtherKey, TooManyExtents, NoType, OtherType}
+use Rattle.lines.specs.Fault.{refusal_number}
 use Rattle.theorems.specs.Statements.{ByLine, RefusedWith, NextWord, Quotes, access_text, ExtentIn}
 use Rattle.theorems.specs.LineWords.{IsAccess, AccessLine, CountedLine, FlatLine, NameAt, version, geometry, key_text, hint_key, UnknownKey, KeyLine, unquoted}
-use Rattle.theorems.specs.GivenWhen.{Fault, sector_count, third_missing, third_other, no_quote, one_quote, not_three_words, file_start, version_number, parent_hint, geometry_number, unknown_key, fault_number, When, FirstFault, OneMore}
+use Rattle.theorems.specs.GivenWhen.{LineFault, sector_count, third_missing, third_other, no_quote, one_quote, not_three_words, file_start, version_number, parent_hint, geometry_number, unknown_key, line_fault, When, FirstFault, OneMore}
 use Rattle.theorems.proofs.LinePlaces.{Lies}
 use Rattle.theorems.proofs.RefusalNumbers.{line_number}
 use Rattle.theorems.proofs.Verdicts.{line_refused}
@@ -71,17 +68,17 @@ module _ (p : ℕ) (t : List ℕ) (b : first_blank t < length t) where
   unfolding text_line access_word same access_line no_access_line
   locked_line k = rw (starts_read (first_blank t) t _ _ k refl, lt-ltb _ _ b, k)
 
-second_due : (t : List ℕ) (at : ℕ) (second : List ℕ) (end : ℕ) (c : SectorCount) → NextWord t at second end → sectors_of second ≡ c → second_of t at ≡ counted_word c end
+second_due : (t : List ℕ) (at : ℕ) (second : List ℕ) (end : ℕ) (c : Option Sectors) → NextWord t at second end → sectors_of second ≡ c → second_of t at ≡ counted_word c end
 unfolding second_of
 second_due t at second end c w e = rw (w.1, w.2, e)
 
-third_none_due : (t : List ℕ) (at : ℕ) → word_of t at ≡ None → third_of t at ≡ Missing
+third_none_due : (t : List ℕ) (at : ℕ) → word_of t at ≡ None → third_of t at ≡ Err NoType
 unfolding third_of
 third_none_due t at e = rw e
 
 -- what a third word is
-abbrev third : List ℕ → Third
-third w = pick (same w (ascii "ZERO")) Zero (pick (same w (ascii "FLAT")) Flat Unsupported)
+abbrev third : List ℕ → Result Third Fault
+third w = pick (same w (ascii "ZERO")) (Ok Zero) (pick (same w (ascii "FLAT")) (Ok Flat) (Err OtherType))
 
 third_due : (t : List ℕ) (at : ℕ) (w : List ℕ) (e : ℕ) → NextWord t at w e → third_of t at ≡ third w
 unfolding third_of
@@ -90,14 +87,14 @@ third_due t at w e n = rw (n.1, n.2)
 module _ (p : ℕ) (t : List ℕ) (a : VmdkAccessType) (s : Sectors) where
   counted_due : (end : ℕ) → CountedLine t a s end → text_line p t ≡ by_third (third_of t end) a s p t
   counted_due end c =
-      open_line p t c.line.blank a c.line.first ∙ rw (second_due t (first_blank t) c.second end (Sectors-as-Count s) c.line.word c.sectors)
+      open_line p t c.line.blank a c.line.first ∙ rw (second_due t (first_blank t) c.second end (Some s) c.line.word c.sectors)
 
   flat_due : FlatLine t a s → text_line p t ≡ flat_by (file_name_of p t) a s t
   unfolding flat_line same
   flat_due f = counted_due f.end f.line ∙ rw (third_due t f.end (ascii "FLAT") f.third_end f.third)
 
 -- ---- the quotes
-here_is : {i j : ℕ} → Here i ≡ Here j → i ≡ j
+here_is : {i j : ℕ} → Some i ≡ Some j → i ≡ j
 here_is e = cc
 
 -- a text is cut at its first two quotes in one way
@@ -125,36 +122,36 @@ module _ (t ms : List ℕ) (sc : scalars ms ≡ true) (e : t ≡ encode_all ms) 
       (λ b c ks u z. let w = quotes_same t a m r b c (encode_all ks) q u in
       rw w.2 (start_rest t (closes t a m r q + 1) ks z (after_second t a m r q ∙ w.2)))
 
-start_word : (t word : List ℕ) (e : ℕ) (c : SectorCount) → NextWord t 0 word e → sectors_of word ≡ c → file_start_of t 0 ≡ c
+start_word : (t word : List ℕ) (e : ℕ) (c : Option Sectors) → NextWord t 0 word e → sectors_of word ≡ c → file_start_of t 0 ≡ c
 unfolding file_start_of
 start_word t word e c n q = rw (n.1, n.2, q)
 
 -- ---- a line's fault gives its number
 module _ (p : ℕ) (t : List ℕ) where
-  no_count_due : (access second : List ℕ) (end : ℕ) → AccessLine t access second end → IsAccess access → sectors_of second ≡ Sectors-as-Bad → text_line p t ≡ Refused 5
+  no_count_due : (access second : List ℕ) (end : ℕ) → AccessLine t access second end → IsAccess access → sectors_of second ≡ None → text_line p t ≡ Err SectorCount
   no_count_due access second end l (inl i) q =
-      open_line p t l.blank i.0 (l.first ∙ i.1) ∙ rw (second_due t (first_blank t) second end Sectors-as-Bad l.word q)
+      open_line p t l.blank i.0 (l.first ∙ i.1) ∙ rw (second_due t (first_blank t) second end None l.word q)
   no_count_due access second end l (inr i) q =
-      locked_line p t l.blank (l.first ∙ i) ∙ rw (second_due t (first_blank t) second end Sectors-as-Bad l.word q)
+      locked_line p t l.blank (l.first ∙ i) ∙ rw (second_due t (first_blank t) second end None l.word q)
 
-  version_due : (value : List ℕ) → KeyLine t (key_text version) value → number_of version_limit value ≡ Num-as-Bad → text_line p t ≡ Refused 12
+  version_due : (value : List ℕ) → KeyLine t (key_text version) value → number_of version_limit value ≡ None → text_line p t ≡ Err VersionNumber
   unfolding value_of version_of
   version_due value k q = key_line_says p t (key_text version) value k ∙ rw (item_key_lem version, k.says, q)
 
-  geometry_due : (g : Geometry) (value : List ℕ) → KeyLine t (key_text (geometry g)) value → number_of largest (unquoted value) ≡ Num-as-Bad → text_line p t ≡ Refused 14
+  geometry_due : (g : Geometry) (value : List ℕ) → KeyLine t (key_text (geometry g)) value → number_of largest (unquoted value) ≡ None → text_line p t ≡ Err GeometryNumber
   unfolding value_of geometry_line geometry_of
   geometry_due g value k q = key_line_says p t (key_text (geometry g)) value k ∙ rw (item_key_lem (geometry g), k.says, q)
 
-  hint_due : (value : List ℕ) → KeyLine t hint_key value → text_line p t ≡ Refused 13
+  hint_due : (value : List ℕ) → KeyLine t hint_key value → text_line p t ≡ Err ParentHint
   unfolding value_of
   hint_due value k = key_line_says p t hint_key value k ∙ rw hint_key_lem
 
-  unknown_due : (key value : List ℕ) → KeyLine t key value → UnknownKey key → text_line p t ≡ Refused 15
+  unknown_due : (key value : List ℕ) → KeyLine t key value → UnknownKey key → text_line p t ≡ Err OtherKey
   unfolding value_of
   unknown_due key value k u = key_line_says p t key value k ∙ rw (unknown_is key u)
 
 module _ (p : ℕ) (t ms : List ℕ) (sc : scalars ms ≡ true) (e : t ≡ encode_all ms) where
-  when_due : (f : Fault) → When f t → text_line p t ≡ Refused (fault_number f)
+  when_due : (f : LineFault) → When f t → text_line p t ≡ Err (line_fault f)
   when_due sector_count w = no_count_due p t w.0 w.1 w.2 w.3 w.4 w.5
   when_due third_missing w = counted_due p t w.0 w.1 w.2 w.3 ∙ rw (third_none_due t w.2 w.4)
   when_due third_other w =
@@ -167,7 +164,7 @@ module _ (p : ℕ) (t ms : List ℕ) (sc : scalars ms ≡ true) (e : t ≡ encod
   when_due not_three_words w = flat_due p t w.0 w.1 w.2 ∙ rw (two_quotes p t w.3 w.4 w.5 w.6, w.7)
   when_due file_start w =
       flat_due p t w.0 w.1 w.2
-      ∙ rw (two_quotes p t w.3 w.4 w.5 w.6, w.7, start_after t ms sc e w.3 w.4 w.5 w.6, start_word w.5 w.8 w.9 Sectors-as-Bad w.10 w.11)
+      ∙ rw (two_quotes p t w.3 w.4 w.5 w.6, w.7, start_after t ms sc e w.3 w.4 w.5 w.6, start_word w.5 w.8 w.9 None w.10 w.11)
   when_due version_number w = version_due p t w.0 w.1 w.2
   when_due parent_hint w = hint_due p t w.0 w.1
   when_due geometry_number w = geometry_due p t w.0 w.1 w.2 w.3
@@ -177,7 +174,7 @@ module _ (p : ℕ) (t ms : List ℕ) (sc : scalars ms ≡ true) (e : t ≡ encod
 pub key_some : (t key value : List ℕ) → KeyLine t key value → 0 < length t
 key_some t key value k = rw (k.whole, length-append k.before (0x3D ∷ k.after)) (omega arith)
 
-when_some : (f : Fault) (t : List ℕ) → When f t → 0 < length t
+when_some : (f : LineFault) (t : List ℕ) → When f t → 0 < length t
 when_some sector_count t w = let b = w.3.blank in omega arith
 when_some third_missing t w = let b = w.3.line.blank in omega arith
 when_some third_other t w = let b = w.3.line.blank in omega arith
@@ -193,27 +190,27 @@ when_some unknown_key t w = key_some t w.0 w.1 w.2
 -- ---- of a line
 -- a line that trimming leaves something of says what that says, where it lies
 module _ (p : ℕ) (l : List ℕ) where
-  nothing_left : trim_of l ≡ Wrong → trimmed l ≡ []
+  nothing_left : trim_of l ≡ None → trimmed l ≡ []
   unfolding trimmed
   nothing_left q = rw q
 
-  pub says_by : {C : Type 0} (r : Trimmed) → trim_of l ≡ r → 0 < length (trimmed l) → ((a e : ℕ) (ms : List ℕ) → trim_of l ≡ Range a e → scalars ms ≡ true → trimmed l ≡ encode_all ms → line_of p l ≡ text_line (p + a) (trimmed l) → C) → C
+  pub says_by : {C : Type 0} (r : Option (ℕ × ℕ)) → trim_of l ≡ r → 0 < length (trimmed l) → ((a e : ℕ) (ms : List ℕ) → trim_of l ≡ Some (a, e) → scalars ms ≡ true → trimmed l ≡ encode_all ms → line_of p l ≡ text_line (p + a) (trimmed l) → C) → C
   unfolding line_of
-  says_by (Range a e) q h g =
+  says_by (Some (a, e)) q h g =
       let c = range_sound l q in
       let s = scalars_split c.middle c.back (scalars_split c.front (c.middle ++ c.back) c.all_scalars).1 in
       g a e c.middle q s.0 c.left (rw q (ap (text_line (p + a)) (range_is l q)))
-  says_by Wrong q h g = absurd (omega (arith, ap length (nothing_left q)))
+  says_by None q h g = absurd (omega (arith, ap length (nothing_left q)))
 
-  fault_due : (f : Fault) → When f (trimmed l) → line_of p l ≡ Refused (fault_number f)
+  fault_due : (f : LineFault) → When f (trimmed l) → line_of p l ≡ Err (line_fault f)
   fault_due f w = says_by (trim_of l) refl (when_some f (trimmed l) w) (λ a e ms q s u k. k ∙ when_due (p + a) (trimmed l) ms s u f w)
 
--- the number tells the fault
-abbrev fault_of : ℕ → Fault
+-- what it is refused with tells the fault
+abbrev fault_of : Fault → LineFault
 fault_of n =
-    pick (leb n 5) sector_count (pick (leb n 6) third_missing (pick (leb n 7) third_other (pick (leb n 8) no_quote (pick (leb n 9) one_quote (pick (leb n 10) not_three_words (pick (leb n 11) file_start (pick (leb n 12) version_number (pick (leb n 13) parent_hint (pick (leb n 14) geometry_number unknown_key)))))))))
+    pick (leb (refusal_number n) 5) sector_count (pick (leb (refusal_number n) 6) third_missing (pick (leb (refusal_number n) 7) third_other (pick (leb (refusal_number n) 8) no_quote (pick (leb (refusal_number n) 9) one_quote (pick (leb (refusal_number n) 10) not_three_words (pick (leb (refusal_number n) 11) file_start (pick (leb (refusal_number n) 12) version_number (pick (leb (refusal_number n) 13) parent_hint (pick (leb (refusal_number n) 14) geometry_number unknown_key)))))))))
 
-number_tells : (f : Fault) → fault_of (fault_number f) ≡ f
+number_tells : (f : LineFault) → fault_of (line_fault f) ≡ f
 number_tells sector_count = refl
 number_tells third_missing = refl
 number_tells third_other = refl
@@ -226,7 +223,7 @@ number_tells parent_hint = refl
 number_tells geometry_number = refl
 number_tells unknown_key = refl
 
-pub number_in : (f : Fault) → (5 ≤ fault_number f) × (fault_number f ≤ 15)
+pub number_in : (f : LineFault) → (5 ≤ refusal_number (line_fault f)) × (refusal_number (line_fault f) ≤ 15)
 number_in sector_count = omega arith
 number_in third_missing = omega arith
 number_in third_other = omega arith
@@ -239,18 +236,18 @@ number_in parent_hint = omega arith
 number_in geometry_number = omega arith
 number_in unknown_key = omega arith
 
-given_is : (f : Fault) (t : List ℕ) → Given t (fault_number f) → When f t
+given_is : (f : LineFault) (t : List ℕ) → Given t (line_fault f) → When f t
 given_is f t g =
-    subst (λ (f : Fault). When f t) (sym (number_tells g.0) ∙ ap fault_of g.1 ∙ number_tells f) g.2
+    subst (λ (f : LineFault). When f t) (sym (number_tells g.0) ∙ ap fault_of g.1 ∙ number_tells f) g.2
 
 -- a line is refused with a fault's number exactly if it has the fault
-pub line_given : (p : ℕ) (l : List ℕ) (f : Fault) → (line_of p l ≡ Refused (fault_number f)) ↔ When f (trimmed l)
+pub line_given : (p : ℕ) (l : List ℕ) (f : LineFault) → (line_of p l ≡ Err (line_fault f)) ↔ When f (trimmed l)
 line_given p l f = (
   λ h. let n = number_in f in
       given_is f (trimmed l)
-      (by_test (leb (fault_number f) 11)
-      (λ b. extent_given p l (fault_number f) n.0 (leb-true _ _ b) h)
-      (λ b. let c = leb-false (fault_number f) 11 b in key_given p l (fault_number f) (omega arith) h)),
+      (by_test (leb (refusal_number (line_fault f)) 11)
+      (λ b. extent_given p l (line_fault f) n.0 (leb-true _ _ b) h)
+      (λ b. let c = leb-false (refusal_number (line_fault f)) 11 b in key_given p l (line_fault f) (omega arith) h)),
   fault_due p l f,
 )
 
@@ -260,17 +257,17 @@ module _ (d : List ℕ) (p : ℕ) (t ms : List ℕ) (sc : scalars ms ≡ true) (
   abbrev of : VmdkParsedStorage → VmdkParsedExtent
   of st = record { sectors = s; storage = st }
 
-  locked_due : ExtentIn d t (of NoAccess) → text_line p t ≡ Extent (of NoAccess)
+  locked_due : ExtentIn d t (of NoAccess) → text_line p t ≡ Ok (Extent (of NoAccess))
   locked_due x =
-      locked_line p t x.blank x.source ∙ rw (second_due t (first_blank t) x.second x.end (Sectors-as-Count s) x.word x.sectors)
+      locked_line p t x.blank x.source ∙ rw (second_due t (first_blank t) x.second x.end (Some s) x.word x.sectors)
 
-  zero_due : (a : VmdkAccessType) → ExtentIn d t (of (Zeros a)) → text_line p t ≡ Extent (of (Zeros a))
+  zero_due : (a : VmdkAccessType) → ExtentIn d t (of (Zeros a)) → text_line p t ≡ Ok (Extent (of (Zeros a)))
   unfolding same
   zero_due a x =
       counted_due p t a s x.end (record { second = x.second; line = record { blank = x.blank; first = x.source.0; word = x.word }; sectors = x.sectors })
       ∙ rw (third_due t x.end (ascii "ZERO") x.source.1.0 x.source.1.1)
 
-  file_due : (a : VmdkAccessType) (name : Text) (start : Sectors) (x : ExtentIn d t (of (File a name start))) → text_line p t ≡ Extent (of (File a (kept_of (p + (length x.source.2.before + 1)) x.source.2.middle) start))
+  file_due : (a : VmdkAccessType) (name : Text) (start : Sectors) (x : ExtentIn d t (of (File a name start))) → text_line p t ≡ Ok (Extent (of (File a (kept_of (p + (length x.source.2.before + 1)) x.source.2.middle) start)))
   file_due a name start x =
       let f = x.source.2 in
       flat_due p t a s
@@ -288,25 +285,25 @@ name_in NoAccess = no_text
 name_in (Zeros a) = no_text
 name_in (File a name start) = name
 
-abbrev name_of : Said → Text
-name_of (Extent x) = name_in x.storage
-name_of Nothing = no_text
-name_of (Set v) = no_text
-name_of (Refused n) = no_text
+abbrev name_of : Result Said Fault → Text
+name_of (Ok (Extent x)) = name_in x.storage
+name_of (Ok Nothing) = no_text
+name_of (Ok (Set v)) = no_text
+name_of (Err n) = no_text
 
 module _ (d : List ℕ) (p : ℕ) (l : List ℕ) (i : Lies d p l) (s : Sectors) where
   extent_some : (st : VmdkParsedStorage) → ExtentIn d (trimmed l) (record { sectors = s; storage = st }) → 0 < length (trimmed l)
   extent_some st x = let b = x.blank in omega arith
 
   -- with the name's place
-  file_line : (a : VmdkAccessType) (name : Text) (start : Sectors) (x : ExtentIn d (trimmed l) (record { sectors = s; storage = File a name start })) → (before middle after : List ℕ) × Quotes l before middle after × (line_of p l ≡ Extent (record { sectors = s; storage = File a (kept_of (p + (length before + 1)) middle) start }))
+  file_line : (a : VmdkAccessType) (name : Text) (start : Sectors) (x : ExtentIn d (trimmed l) (record { sectors = s; storage = File a name start })) → (before middle after : List ℕ) × Quotes l before middle after × (line_of p l ≡ Ok (Extent (record { sectors = s; storage = File a (kept_of (p + (length before + 1)) middle) start })))
   file_line a name start x = says_by p l (trim_of l) refl (extent_some (File a name start) x) (λ b e ms q sc u k.
       let f = x.source.2 in
       let w = quotes_line l f.before f.middle f.after (range_text l q) f.quotes in
       let z : p + b + (length f.before + 1) ≡ p + (length (w.0 ++ f.before) + 1) = omega (arith, w.3 b e q, length-append w.0 f.before) in
       (w.0 ++ f.before, f.middle, f.after ++ w.1, w.2, k ∙ file_due d (p + b) (trimmed l) ms sc u s a name start x ∙ rw z))
 
-  extent_both : (st : VmdkParsedStorage) → (line_of p l ≡ Extent (record { sectors = s; storage = st })) ↔ (ExtentIn d (trimmed l) (record { sectors = s; storage = st }) × NameAt p l st)
+  extent_both : (st : VmdkParsedStorage) → (line_of p l ≡ Ok (Extent (record { sectors = s; storage = st }))) ↔ (ExtentIn d (trimmed l) (record { sectors = s; storage = st }) × NameAt p l st)
   extent_both NoAccess = (
     λ h. (extent_says d p l _ i h, tt),
     λ w. says_by p l (trim_of l) refl (extent_some NoAccess w.0) (λ b e ms q sc u k. k ∙ locked_due d (p + b) (trimmed l) ms sc u s w.0),
@@ -325,22 +322,22 @@ module _ (d : List ℕ) (p : ℕ) (l : List ℕ) (i : Lies d p l) (s : Sectors) 
         w.4 ∙ rw (← c.0, ← c.1, ← n.4),
   )
 
-pub extent_exactly : (d : List ℕ) (p : ℕ) (l : List ℕ) → Lies d p l → (x : VmdkParsedExtent) → (line_of p l ≡ Extent x) ↔ (ExtentIn d (trimmed l) x × NameAt p l x.storage)
+pub extent_exactly : (d : List ℕ) (p : ℕ) (l : List ℕ) → Lies d p l → (x : VmdkParsedExtent) → (line_of p l ≡ Ok (Extent x)) ↔ (ExtentIn d (trimmed l) x × NameAt p l x.storage)
 extent_exactly d p l i x = extent_both d p l i x.sectors x.storage
 
 -- ---- of a descriptor
 -- the first line that is refused with a fault's number has it, and only then
-module _ (d : List ℕ) (f : Fault) (k : ℕ) where
-  refused_is : (p : ℕ) (l : List ℕ) (extents : ℕ) (s : Said) → line_of p l ≡ s → RefusedWith (fault_number f) extents s → line_of p l ≡ Refused (fault_number f)
-  refused_is p l extents Nothing e r = absurd r
-  refused_is p l extents (Set v) e r = absurd r
-  refused_is p l extents (Extent x) e r = absurd (omega (arith, r.0, number_in f))
-  refused_is p l extents (Refused m) e r = e ∙ ap Refused r
+module _ (d : List ℕ) (f : LineFault) (k : ℕ) where
+  refused_is : (p : ℕ) (l : List ℕ) (extents : ℕ) (s : Result Said Fault) → line_of p l ≡ s → RefusedWith (line_fault f) extents s → line_of p l ≡ Err (line_fault f)
+  refused_is p l extents (Ok Nothing) e r = absurd r
+  refused_is p l extents (Ok (Set v)) e r = absurd r
+  refused_is p l extents (Ok (Extent x)) e r = absurd (omega (arith, ap refusal_number r.0, number_in f))
+  refused_is p l extents (Err m) e r = e ∙ ap Err r
 
-  pub fault_first : ((read_of d).verdict ≡ refusal (fault_number f) k) ↔ (ByLine d × FirstFault d f k)
+  pub fault_first : ((read_of d).verdict ≡ refusal (line_fault f) k) ↔ (ByLine d × FirstFault d f k)
   fault_first =
       let n = number_in f in
-      let g = line_refused d (fault_number f) k (omega arith) (omega arith) in (
+      let g = line_refused d (line_fault f) k (omega arith) (omega arith) in (
         λ h. let w = g.0 h in
             let r = w.1.1 in (
               w.0,
@@ -359,15 +356,15 @@ module _ (d : List ℕ) (f : Fault) (k : ℕ) where
 
 -- 16 is no line's own number
 module _ (d : List ℕ) (k : ℕ) where
-  one_more : (p : ℕ) (l : List ℕ) (extents : ℕ) (s : Said) → line_of p l ≡ s → RefusedWith 16 extents s → (extents ≡ most) × ((x : VmdkParsedExtent) × (line_of p l ≡ Extent x))
-  one_more p l extents Nothing e r = absurd r
-  one_more p l extents (Set v) e r = absurd r
-  one_more p l extents (Extent x) e r = (r.1, (x, e))
-  one_more p l extents (Refused m) e r = absurd (omega (arith, line_number p l m e))
+  one_more : (p : ℕ) (l : List ℕ) (extents : ℕ) (s : Result Said Fault) → line_of p l ≡ s → RefusedWith TooManyExtents extents s → (extents ≡ most) × ((x : VmdkParsedExtent) × (line_of p l ≡ Ok (Extent x)))
+  one_more p l extents (Ok Nothing) e r = absurd r
+  one_more p l extents (Ok (Set v)) e r = absurd r
+  one_more p l extents (Ok (Extent x)) e r = (r.1, (x, e))
+  one_more p l extents (Err m) e r = absurd (omega (arith, line_number p l m e, ap refusal_number r))
 
-  pub extents_full : ((read_of d).verdict ≡ refusal 16 k) ↔ (ByLine d × OneMore d k)
+  pub extents_full : ((read_of d).verdict ≡ refusal TooManyExtents k) ↔ (ByLine d × OneMore d k)
   extents_full =
-      let g = line_refused d 16 k (omega arith) (omega arith) in (
+      let g = line_refused d TooManyExtents k (omega arith) (omega arith) in (
         λ h. let w = g.0 h in
             let r = w.1.1 in
             let o = one_more r.place w.1.0 _ (line_of r.place w.1.0) refl r.refused in

@@ -1,5 +1,6 @@
 -- The lines join to the descriptor, so a line's bytes stand there at its place, and those of a part of it behind them.
 -- So a text that is kept as place and length has in the descriptor the bytes that trimming leaves.
+use Rattle.std.specs.Prelude.{None, Option, Some}
 use Prim.Native.Nat.{ℕ, zero, suc, ◌+◌, ◌-◌, ◌≤◌}
 use native.Mathlib.Omega.{arith}
 use mathlib.Core.List.{List, [], ◌∷◌, ◌++◌}
@@ -10,8 +11,6 @@ use lib.Seq.{take_all, take-take, take-append_seam, take-nil, drop-append-add, d
 use borrow.Author.Tests.{eqb-true}
 use Rattle.text.specs.Text.{trim_of, trimmed}
 use Rattle.text.specs.Lines.{join_lines}
-use Rattle.text.specs.declared.words.Trimmed.{Trimmed}
-use Rattle.text.specs.declared.words.Trimmed.TheVariants.{Range, Wrong}
 use Rattle.text.proofs.Flat.{by_test}
 use Rattle.text.proofs.Bounds.{trim_within}
 use Rattle.text.proofs.Lines.{lines_join}
@@ -74,10 +73,10 @@ kept_at_lem d p v i a e h k =
     (λ f. let g : e - a ≡ 0 = omega (arith, eqb-true a e f) in rw (f, g))
     (λ f. rw f (part_bytes d p v i a e h k))
 
-kept_bytes : (d : List ℕ) (p : ℕ) (v : List ℕ) (r : Trimmed) → trim_of v ≡ r → Lies d p v → text_in d (kept_of p v) ≡ trimmed v
+kept_bytes : (d : List ℕ) (p : ℕ) (v : List ℕ) (r : Option (ℕ × ℕ)) → trim_of v ≡ r → Lies d p v → text_in d (kept_of p v) ≡ trimmed v
 unfolding kept_of trimmed
-kept_bytes d p v (Range a e) q i = let w = trim_within v q in rw q (kept_at_lem d p v i a e w.0 w.1)
-kept_bytes d p v Wrong q i = rw q
+kept_bytes d p v (Some (a, e)) q i = let w = trim_within v q in rw q (kept_at_lem d p v i a e w.0 w.1)
+kept_bytes d p v None q i = rw q
 
 pub kept_is : (d : List ℕ) (p : ℕ) (v : List ℕ) → Lies d p v → text_in d (kept_of p v) ≡ trimmed v
 kept_is d p v i = kept_bytes d p v (trim_of v) refl i

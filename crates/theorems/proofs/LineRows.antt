@@ -1,4 +1,5 @@
 -- The i-th line that says an extent says the i-th of the extents, and a row has its extent's source and line, so those are that line's.
+use Rattle.std.specs.Prelude.{Ok}
 use Prim.Native.Nat.{ℕ, suc, ◌+◌, ◌<◌}
 use native.Mathlib.Omega.{arith}
 use mathlib.Core.List.{List, [], ◌∷◌, ◌++◌}
@@ -15,7 +16,6 @@ use Rattle.lines.specs.Record.{no_extent, no_read, counted}
 use Rattle.lines.specs.Line.{line_of}
 use Rattle.lines.specs.declared.line.Said.TheVariants.{Extent}
 use Rattle.lines.specs.declared.record.Text.{Text}
-use Rattle.lines.specs.declared.record.Verdict.TheVariants.{Sound}
 use Rattle.lines.specs.declared.record.ReadExtent.{ReadExtent}
 use Rattle.lines.specs.declared.record.Record.{Record}
 use Rattle.lines.specs.declared.record.VmdkAccessType.{VmdkAccessType}
@@ -58,18 +58,18 @@ quotes_in l front middle back q =
     rw (q.whole, from_behind 0x22 front (middle ++ 0x22 ∷ back) q.first) (up_to_lem 0x22 middle back q.second)
 
 -- a line that says a flat extent names its file
-line_names : (d : List ℕ) (p : ℕ) (l : List ℕ) → Lies d p l → (s : Sectors) (a : VmdkAccessType) (name : Text) (start : Sectors) → line_of p l ≡ Extent (record { sectors = s; storage = Flat a name start }) → text_in d name ≡ trimmed (in_quotes l)
+line_names : (d : List ℕ) (p : ℕ) (l : List ℕ) → Lies d p l → (s : Sectors) (a : VmdkAccessType) (name : Text) (start : Sectors) → line_of p l ≡ Ok (Extent (record { sectors = s; storage = Flat a name start })) → text_in d name ≡ trimmed (in_quotes l)
 line_names d p l i s a name start h =
     let f = file_named d p l s a name start i h in f.4 ∙ ap trimmed (sym (quotes_in l f.0 f.1 f.2 f.3))
 
-source_names : (d : List ℕ) (p : ℕ) (l : List ℕ) → Lies d p l → (s : Sectors) (st : VmdkParsedStorage) → line_of p l ≡ Extent (record { sectors = s; storage = st }) → (a : VmdkAccessType) (start : Bytes) (name : Text) → source_of st ≡ File a start name → text_in d name ≡ trimmed (in_quotes l)
+source_names : (d : List ℕ) (p : ℕ) (l : List ℕ) → Lies d p l → (s : Sectors) (st : VmdkParsedStorage) → line_of p l ≡ Ok (Extent (record { sectors = s; storage = st })) → (a : VmdkAccessType) (start : Bytes) (name : Text) → source_of st ≡ File a start name → text_in d name ≡ trimmed (in_quotes l)
 source_names d p l i s NoAccess h a start name e = let z : ◌≡◌ {A = ℕ} 0 1 = cc in absurd (omega arith)
 source_names d p l i s (Zero b) h a start name e = let z : ◌≡◌ {A = ℕ} 0 1 = cc in absurd (omega arith)
 source_names d p l i s (Flat b named sector) h a start name e =
     let q : named ≡ name = cc in rw (← q) (line_names d p l i s b named sector h)
 
 -- ---- the extents that are read
-module _ (d : List ℕ) (a : (read_of d).verdict ≡ Sound) where
+module _ (d : List ℕ) (a : (read_of d).verdict ≡ (Ok tt)) where
   read_count : (read_of d).descriptor.count ≡ length (extents_in (sayings_of d))
   read_count = ap (λ (x : Record). x.count) (accepted_checked d a).1 ∙ read_length 1 (sayings_of d)
 
@@ -85,12 +85,12 @@ module _ (d : List ℕ) (a : (read_of d).verdict ≡ Sound) where
         number = suc (length s.before);
         there = record { after = s.after; lines = s.lines; place = refl; number = refl };
         nth = sym s.nth;
-        says = s.says ∙ ap Extent (sym e ∙ ap (λ (xs : List VmdkParsedExtent). get_or xs i no_extent) (sym (accepted_extents d a)));
+        says = s.says ∙ ap (λ x. Ok (Extent x)) (sym e ∙ ap (λ (xs : List VmdkParsedExtent). get_or xs i no_extent) (sym (accepted_extents d a)));
         lined = ap (λ (xs : List ReadExtent). (get_or xs i no_read).line) (accepted_read d a) ∙ said_line (lines_of d) i s;
       }
 
 -- ---- the rows
-module _ (d : List ℕ) (t : Table) (a : (read_of d).verdict ≡ Sound) (b : Builds (read_of d).descriptor t) where
+module _ (d : List ℕ) (t : Table) (a : (read_of d).verdict ≡ (Ok tt)) (b : Builds (read_of d).descriptor t) where
   abbrev rows : InRows (read_of d).descriptor t
   rows = built_in_rows (read_of d).descriptor t b
 
@@ -98,11 +98,11 @@ module _ (d : List ℕ) (t : Table) (a : (read_of d).verdict ≡ Sound) (b : Bui
   said_count = rows.count ∙ ap length (accepted_extents d a)
 
   -- the row of a line that says an extent
-  module _ (before : List (List ℕ)) (l : List ℕ) (p k : ℕ) (at : LineAt d before l p k) (x : VmdkParsedExtent) (h : line_of p l ≡ Extent x) where
+  module _ (before : List (List ℕ)) (l : List ℕ) (p k : ℕ) (at : LineAt d before l p k) (x : VmdkParsedExtent) (h : line_of p l ≡ Ok (Extent x)) where
     abbrev row : ℕ
     row = length (extents_in (sayings 0 before))
 
-    said_here : line_of (place_after 0 before) l ≡ Extent x
+    said_here : line_of (place_after 0 before) l ≡ Ok (Extent x)
     said_here = rw (← at.place) h
 
     pub row_below : row < t.count
@@ -153,7 +153,7 @@ module _ (d : List ℕ) (t : Table) (a : (read_of d).verdict ≡ Sound) (b : Bui
   from_line i h = from_says i h (says_in 0 (lines_of d) i (omega (arith, said_count)))
 
   -- the name of its row, of a line that says a flat extent
-  pub row_name : (before : List (List ℕ)) (l : List ℕ) (p k : ℕ) → LineAt d before l p k → (s : Sectors) (acc : VmdkAccessType) (name : Text) (start : Sectors) → line_of p l ≡ Extent (record { sectors = s; storage = Flat acc name start }) → name_at d t (length (extents_in (sayings 0 before))) ≡ trimmed (in_quotes l)
+  pub row_name : (before : List (List ℕ)) (l : List ℕ) (p k : ℕ) → LineAt d before l p k → (s : Sectors) (acc : VmdkAccessType) (name : Text) (start : Sectors) → line_of p l ≡ Ok (Extent (record { sectors = s; storage = Flat acc name start })) → name_at d t (length (extents_in (sayings 0 before))) ≡ trimmed (in_quotes l)
   row_name before l p k at s acc name start h =
       rw (row_source before l p k at (record { sectors = s; storage = Flat acc name start }) h) (line_names d p l (lies d before l p k at) s acc name start h)
 

@@ -1,5 +1,6 @@
 -- A mapping is refused with 21 or 22 by the place that it shows, and with 23 only before anything is looked at.
 -- A walk takes one step after the other, so it stops with a refusal exactly where the mapping of a step is refused.
+use Rattle.std.specs.Prelude.{Err, Ok, Result}
 use Prim.Native.Nat.{ℕ, zero, suc, ◌+◌, ◌-◌, ◌≤◌, ◌<◌, min}
 use native.Mathlib.Omega.{arith}
 use mathlib.Core.Logic.{◌↔◌}
@@ -17,9 +18,12 @@ use Rattle.tables.specs.declared.table.Source.TheVariants.{NoAccess as Locked, Z
 use Rattle.tables.specs.declared.table.Table.{Table}
 use Rattle.tables.specs.declared.table.Mapping.{Mapping}
 use Rattle.tables.specs.declared.table.Piece.{Piece}
+use Rattle.tables.specs.declared.table.ShallowMapping.TheVariants.{Eof, Zero, Raw}
+use Rattle.tables.specs.declared.table.Stop.TheVariants.{Done, More}
 use Rattle.tables.specs.declared.table.ShallowMapping.{ShallowMapping}
-use Rattle.tables.specs.declared.table.ShallowMapping.TheVariants.{Eof, Zero, Raw, Refused}
-use Rattle.tables.specs.declared.table.Stop.TheVariants.{Done, More, Refused as Stopped}
+use Rattle.lines.specs.declared.record.Fault.{Fault}
+use Rattle.lines.specs.declared.record.Fault.TheVariants.{Inaccessible, OffsetTooLarge, CountTooLarge}
+use Rattle.lines.specs.Fault.{refusal_number}
 use Rattle.tables.specs.Build.{no_row}
 use Rattle.maps.specs.Map.{Search, found, nowhere, writable, ended, refused, sourced, in_row, search_of, map_of}
 use Rattle.maps.specs.Place.{Place, past, locked, zeros, file, place_of}
@@ -31,41 +35,41 @@ use Rattle.theorems.proofs.Maps.{built_maps}
 use Rattle.theorems.proofs.Routes.{over_or_on, walk_full, walk_step}
 
 -- ---- by the place
-shown_locked : (p : Place) → (shown p ≡ Refused 21) ↔ ((i : ℕ) × (p ≡ locked i))
+shown_locked : (p : Place) → (shown p ≡ Err Inaccessible) ↔ ((i : ℕ) × (p ≡ locked i))
 shown_locked past = (λ e. let z : ◌≡◌ {A = ℕ} 0 1 = cc in absurd (omega arith), λ w. let e = w.1 in let z : ◌≡◌ {A = ℕ} 0 1 = cc in absurd (omega arith))
 shown_locked (locked i) = (λ e. (i, refl), λ w. refl)
 shown_locked (zeros i) = (λ e. let z : ◌≡◌ {A = ℕ} 0 1 = cc in absurd (omega arith), λ w. let e = w.1 in let z : ◌≡◌ {A = ℕ} 0 1 = cc in absurd (omega arith))
 shown_locked (file i f w) = (
   λ e. by_test (leb f largest)
-      (λ h. let g : Raw i f w ≡ Refused 21 = rw h at e in let z : ◌≡◌ {A = ℕ} 0 1 = cc in absurd (omega arith))
-      (λ h. let g : Refused 22 ≡ Refused 21 = rw h at e in let z : ◌≡◌ {A = ℕ} 22 21 = cc in absurd (omega arith)),
+      (λ h. let g : Ok (Raw i f w) ≡ Err Inaccessible = rw h at e in let z : ◌≡◌ {A = ℕ} 0 1 = cc in absurd (omega arith))
+      (λ h. let g : Err OffsetTooLarge ≡ Err Inaccessible = rw h at e in let z : ◌≡◌ {A = ℕ} 22 21 = cc in absurd (omega arith)),
   λ k. let e = k.1 in let z : ◌≡◌ {A = ℕ} 0 1 = cc in absurd (omega arith),
 )
 
-shown_over : (p : Place) → (shown p ≡ Refused 22) ↔ ((i f : ℕ) × (w : Bool) × (p ≡ file i f w) × (largest < f))
+shown_over : (p : Place) → (shown p ≡ Err OffsetTooLarge) ↔ ((i f : ℕ) × (w : Bool) × (p ≡ file i f w) × (largest < f))
 shown_over past = (λ e. let z : ◌≡◌ {A = ℕ} 0 1 = cc in absurd (omega arith), λ w. let e = w.3 in let z : ◌≡◌ {A = ℕ} 0 1 = cc in absurd (omega arith))
 shown_over (locked i) = (λ e. let z : ◌≡◌ {A = ℕ} 21 22 = cc in absurd (omega arith), λ w. let e = w.3 in let z : ◌≡◌ {A = ℕ} 0 1 = cc in absurd (omega arith))
 shown_over (zeros i) = (λ e. let z : ◌≡◌ {A = ℕ} 0 1 = cc in absurd (omega arith), λ w. let e = w.3 in let z : ◌≡◌ {A = ℕ} 0 1 = cc in absurd (omega arith))
 shown_over (file i f w) = (
   λ e. by_test (leb f largest)
-      (λ h. let g : Raw i f w ≡ Refused 22 = rw h at e in let z : ◌≡◌ {A = ℕ} 0 1 = cc in absurd (omega arith))
+      (λ h. let g : Ok (Raw i f w) ≡ Err OffsetTooLarge = rw h at e in let z : ◌≡◌ {A = ℕ} 0 1 = cc in absurd (omega arith))
       (λ h. (i, f, w, refl, leb-false _ _ h)),
   λ k. let e = k.3 in let q : f ≡ k.1 = cc in let h : largest < f = omega (arith, k.4) in rw (lt-leb _ _ h),
 )
 
 module _ (r : Record) (t : Table) (b : Builds r t) (o asked : ℕ) where
-  pub map_locked : ((map_of t o asked).mapping ≡ Refused 21) ↔ NoAccessAt (counted r) o
+  pub map_locked : ((map_of t o asked).mapping ≡ Err Inaccessible) ↔ NoAccessAt (counted r) o
   map_locked = rw (built_maps r t b o asked).mapping (shown_locked (place_of (counted r) o))
 
-  pub map_over : ((map_of t o asked).mapping ≡ Refused 22) ↔ FileOverAt (counted r) o
+  pub map_over : ((map_of t o asked).mapping ≡ Err OffsetTooLarge) ↔ FileOverAt (counted r) o
   map_over = rw (built_maps r t b o asked).mapping (shown_over (place_of (counted r) o))
 
 -- ---- a row's refusal is 21 or 22
-abbrev Fair : ShallowMapping → Type 0
-Fair Eof = Unit {0}
-Fair (Zero i) = Unit {0}
-Fair (Raw i at w) = Unit {0}
-Fair (Refused n) = (21 ≤ n) × (n ≤ 22)
+abbrev Fair : Result ShallowMapping Fault → Type 0
+Fair (Ok Eof) = Unit {0}
+Fair (Ok (Zero i)) = Unit {0}
+Fair (Ok (Raw i at w)) = Unit {0}
+Fair (Err n) = (21 ≤ refusal_number n) × (refusal_number n ≤ 22)
 
 -- and a run is at most what was asked
 abbrev Fine : ℕ → Mapping → Type 0
@@ -76,7 +80,7 @@ unfolding sourced
 fine_sourced Locked i o run n = (omega arith, omega arith)
 fine_sourced (Zeros a) i o run n = (tt, omega arith)
 fine_sourced (File a start name) i o run n =
-    pick_all (Fine run) (leb (start.0 + o) largest) (record { mapping = Raw i (start.0 + o) (writable a); run = run; looked = n }) (refused 22 n) (tt, omega arith) (omega arith, omega arith)
+    pick_all (Fine run) (leb (start.0 + o) largest) (record { mapping = Ok (Raw i (start.0 + o) (writable a)); run = run; looked = n }) (refused OffsetTooLarge n) (tt, omega arith) (omega arith, omega arith)
 
 fine_row : (t : Table) (o asked : ℕ) (s : Search) → Fine asked (in_row t o asked s)
 unfolding in_row
@@ -91,7 +95,7 @@ module _ (t : Table) (o asked : ℕ) where
   unfolding map_of
   map_few h = rw (le-leb _ _ h) (pick_all (Fine asked) (leb t.size.0 o) (ended 0) (in_row t o asked (search_of t o)) (tt, omega arith) (fine_row t o asked (search_of t o)))
 
-  map_many : most < t.count → map_of t o asked ≡ refused 23 0
+  map_many : most < t.count → map_of t o asked ≡ refused CountTooLarge 0
   unfolding map_of
   map_many h = rw (lt-leb _ _ h)
 
@@ -99,7 +103,7 @@ module _ (t : Table) (o asked : ℕ) where
   unfolding map_of
   map_past h g = rw (le-leb _ _ h, le-leb _ _ g)
 
-  pub map_counted : ((map_of t o asked).mapping ≡ Refused 23) ↔ (most < t.count)
+  pub map_counted : ((map_of t o asked).mapping ≡ Err CountTooLarge) ↔ (most < t.count)
   map_counted = (
     λ e. by_test (leb t.count most)
         (λ h. let f : (21 ≤ 23) × (23 ≤ 22) = subst Fair e (map_few (leb-true _ _ h)).0 in absurd (omega arith))
@@ -107,23 +111,23 @@ module _ (t : Table) (o asked : ℕ) where
     λ h. ap (λ (m : Mapping). m.mapping) (map_many h),
   )
 
-  pub map_numbers : (n : ℕ) → (map_of t o asked).mapping ≡ Refused n → (21 ≤ n) × (n ≤ 23)
+  pub map_numbers : (n : Fault) → (map_of t o asked).mapping ≡ Err n → (21 ≤ refusal_number n) × (refusal_number n ≤ 23)
   map_numbers n e =
       by_test (leb t.count most)
-      (λ h. let f : (21 ≤ n) × (n ≤ 22) = subst Fair e (map_few (leb-true _ _ h)).0 in omega arith)
-      (λ h. let g : Refused 23 ≡ Refused n = sym (map_counted.1 (leb-false _ _ h)) ∙ e in let q : 23 ≡ n = cc in omega arith)
+      (λ h. let f : (21 ≤ refusal_number n) × (refusal_number n ≤ 22) = subst Fair e (map_few (leb-true _ _ h)).0 in omega arith)
+      (λ h. let g : Err CountTooLarge ≡ Err n = sym (map_counted.1 (leb-false _ _ h)) ∙ e in let q : CountTooLarge ≡ n = cc in omega (arith, ap refusal_number q))
 
 -- ---- the walk
 -- a walk up to a place, with room for some pieces, stands at a mapping that is refused with n
-module _ (t : Table) (n : ℕ) where
+module _ (t : Table) (n : Fault) where
   record Meets (room end : ℕ) (w : Walk) : Type 0 where
     some_left : w.position < end
     some_room : length w.pieces < room
-    meets : (map_of t w.position (end - w.position)).mapping ≡ Refused n
+    meets : (map_of t w.position (end - w.position)).mapping ≡ Err n
 
   -- then it stops with n, and only then
   abbrev Due : ℕ → ℕ → Walk → Type 0
-  Due room end w = (w.stop ≡ Stopped n) ↔ Meets room end w
+  Due room end w = (w.stop ≡ Err n) ↔ Meets room end w
 
   on : (room end : ℕ) (p : Piece) (k : ℕ) (after : Walk) → Due room end after → Due (suc room) end (then p k after)
   on room end p k after h = (
@@ -135,17 +139,17 @@ module _ (t : Table) (n : ℕ) where
     here : (map_of t pos (end - pos)).mapping ≡ (map_of t pos left).mapping
     here = let e : end - pos ≡ left = omega arith in rw e
 
-    due_step : (room run k : ℕ) (m : ShallowMapping) (after : Walk) → (map_of t pos left).mapping ≡ m → Due room end after → Due (suc room) end (step pos m run k after)
-    due_step room run k Eof after q h = (
+    due_step : (room run k : ℕ) (m : Result ShallowMapping Fault) (after : Walk) → (map_of t pos left).mapping ≡ m → Due room end after → Due (suc room) end (step pos m run k after)
+    due_step room run k (Ok Eof) after q h = (
       λ e. let z : ◌≡◌ {A = ℕ} 0 1 = cc in absurd (omega arith),
-      λ m. let g : Eof ≡ Refused n = sym q ∙ sym here ∙ m.meets in let z : ◌≡◌ {A = ℕ} 0 1 = cc in absurd (omega arith),
+      λ m. let g : (Ok Eof) ≡ Err n = sym q ∙ sym here ∙ m.meets in let z : ◌≡◌ {A = ℕ} 0 1 = cc in absurd (omega arith),
     )
-    due_step room run k (Refused i) after q h = (
-      λ e. let g : i ≡ n = cc in record { some_left = omega arith; some_room = omega arith; meets = here ∙ q ∙ ap Refused g },
-      λ m. let g : Refused i ≡ Refused n = sym q ∙ sym here ∙ m.meets in let f : i ≡ n = cc in ap Stopped f,
+    due_step room run k (Err i) after q h = (
+      λ e. let g : i ≡ n = cc in record { some_left = omega arith; some_room = omega arith; meets = here ∙ q ∙ ap Err g },
+      λ m. let g : Err i ≡ Err n = sym q ∙ sym here ∙ m.meets in let f : i ≡ n = cc in ap Err f,
     )
-    due_step room run k (Zero i) after q h = on room end (zero_piece pos run i) k after h
-    due_step room run k (Raw i at w) after q h = on room end (raw_piece pos run i at w) k after h
+    due_step room run k (Ok (Zero i)) after q h = on room end (zero_piece pos run i) k after h
+    due_step room run k (Ok (Raw i at w)) after q h = on room end (raw_piece pos run i at w) k after h
 
   due : (room pos left end : ℕ) → t.count ≤ most → pos + left ≡ end → Due room end (walk_from room t pos left)
   due zero pos left end c u =
@@ -159,12 +163,12 @@ module _ (t : Table) (n : ℕ) where
       let r : pos + m.run + (left - m.run) ≡ end = omega (arith, (map_few t pos left c).1) in
       rw (walk_step t pos left a b room) (due_step pos left end u a room m.run m.looked m.mapping (walk_from room t (pos + m.run) (left - m.run)) refl (due room (pos + m.run) (left - m.run) end c r)))
     where
-      no_more : pos < end → (map_of t pos (end - pos)).mapping ≡ Refused n → ((room : ℕ) → walk_from room t pos left ≡ ends Done pos 0) → ⊥
+      no_more : pos < end → (map_of t pos (end - pos)).mapping ≡ Err n → ((room : ℕ) → walk_from room t pos left ≡ ends (Ok Done) pos 0) → ⊥
       no_more l q e =
           by_test (leb t.size.0 pos)
-          (λ s. let g : Eof ≡ Refused n = ap (λ (m : Mapping). m.mapping) (sym (map_past t pos (end - pos) c (leb-true _ _ s))) ∙ q in let z : ◌≡◌ {A = ℕ} 0 1 = cc in omega arith)
+          (λ s. let g : (Ok Eof) ≡ Err n = ap (λ (m : Mapping). m.mapping) (sym (map_past t pos (end - pos) c (leb-true _ _ s))) ∙ q in let z : ◌≡◌ {A = ℕ} 0 1 = cc in omega arith)
           (λ s. let a : 0 < left = omega arith in
-          let g : More ≡ Done = ap (λ (w : Walk). w.stop) (sym (walk_full t pos left a (leb-false _ _ s)) ∙ e 0) in
+          let g : (Ok More) ≡ (Ok Done) = ap (λ (w : Walk). w.stop) (sym (walk_full t pos left a (leb-false _ _ s)) ∙ e 0) in
           let z : ◌≡◌ {A = ℕ} 0 1 = cc in
           omega arith)
 
@@ -176,11 +180,11 @@ module _ (t : Table) (places start long : ℕ) where
   unfolding walk_of
   walk_few h = rw (le-leb _ _ h)
 
-  walk_many : most < t.count → walk ≡ ends (Stopped 23) start 0
+  walk_many : most < t.count → walk ≡ ends (Err CountTooLarge) start 0
   unfolding walk_of
   walk_many h = rw (lt-leb _ _ h)
 
-  pub walk_met : (n : ℕ) → n < 23 → (walk.stop ≡ Stopped n) ↔ StopsWhere (λ o. (map_of t o (start + long - o)).mapping ≡ Refused n) places start long walk
+  pub walk_met : (n : Fault) → refusal_number n < 23 → (walk.stop ≡ Err n) ↔ StopsWhere (λ o. (map_of t o (start + long - o)).mapping ≡ Err n) places start long walk
   walk_met n h =
       by_test (leb t.count most)
       (λ e. let c = leb-true _ _ e in
@@ -191,27 +195,27 @@ module _ (t : Table) (places start long : ℕ) where
       ))
       (λ e. let c = leb-false _ _ e in
       rw (walk_many c) (
-        λ q. let z : 23 ≡ n = cc in absurd (omega arith),
-        λ m. let g : Refused 23 ≡ Refused n = sym ((map_counted t start (start + long - start)).1 c) ∙ m.so in let z : 23 ≡ n = cc in absurd (omega arith),
+        λ q. let z : CountTooLarge ≡ n = cc in absurd (omega (arith, ap refusal_number z)),
+        λ m. let g : Err CountTooLarge ≡ Err n = sym ((map_counted t start (start + long - start)).1 c) ∙ m.so in let z : CountTooLarge ≡ n = cc in absurd (omega (arith, ap refusal_number z)),
       ))
 
-  pub walk_counted : (walk.stop ≡ Stopped 23) ↔ (most < t.count)
+  pub walk_counted : (walk.stop ≡ Err CountTooLarge) ↔ (most < t.count)
   walk_counted = (
     λ q. by_test (leb t.count most)
         (λ e. let c = leb-true _ _ e in
-        let m = (due t 23 (min places most) start long (start + long) c refl).0 (rw (walk_few c) at q) in
+        let m = (due t CountTooLarge (min places most) start long (start + long) c refl).0 (rw (walk_few c) at q) in
         (map_counted t _ _).0 m.meets)
         (λ e. leb-false _ _ e),
     λ h. ap (λ (w : Walk). w.stop) (walk_many h),
   )
 
-  pub walk_numbers : (n : ℕ) → walk.stop ≡ Stopped n → (21 ≤ n) × (n ≤ 23)
+  pub walk_numbers : (n : Fault) → walk.stop ≡ Err n → (21 ≤ refusal_number n) × (refusal_number n ≤ 23)
   walk_numbers n q =
       by_test (leb t.count most)
       (λ e. let c = leb-true _ _ e in
       let m = (due t n (min places most) start long (start + long) c refl).0 (rw (walk_few c) at q) in
       map_numbers t _ _ n m.meets)
-      (λ e. let g : Stopped 23 ≡ Stopped n = sym (walk_counted.1 (leb-false _ _ e)) ∙ q in let z : 23 ≡ n = cc in omega arith)
+      (λ e. let g : Err CountTooLarge ≡ Err n = sym (walk_counted.1 (leb-false _ _ e)) ∙ q in let z : CountTooLarge ≡ n = cc in omega (arith, ap refusal_number z))
 
 -- with another way to say how the position is
 stops_map : {P Q : ℕ → Type 0} {places start long : ℕ} (w : Walk) → ((o : ℕ) → P o ↔ Q o) → StopsWhere P places start long w ↔ StopsWhere Q places start long w
@@ -224,8 +228,8 @@ both_ways : {A B C : Type 0} → A ↔ B → B ↔ C → A ↔ C
 both_ways f g = (λ a. g.0 (f.0 a), λ c. f.1 (g.1 c))
 
 module _ (r : Record) (t : Table) (b : Builds r t) (places start long : ℕ) where
-  pub walk_locked : ((walk_of t places start long).stop ≡ Stopped 21) ↔ StopsWhere (NoAccessAt (counted r)) places start long (walk_of t places start long)
-  walk_locked = both_ways (walk_met t places start long 21 (omega arith)) (stops_map (walk_of t places start long) (λ o. map_locked r t b o (start + long - o)))
+  pub walk_locked : ((walk_of t places start long).stop ≡ Err Inaccessible) ↔ StopsWhere (NoAccessAt (counted r)) places start long (walk_of t places start long)
+  walk_locked = both_ways (walk_met t places start long Inaccessible (omega arith)) (stops_map (walk_of t places start long) (λ o. map_locked r t b o (start + long - o)))
 
-  pub walk_file_over : ((walk_of t places start long).stop ≡ Stopped 22) ↔ StopsWhere (FileOverAt (counted r)) places start long (walk_of t places start long)
-  walk_file_over = both_ways (walk_met t places start long 22 (omega arith)) (stops_map (walk_of t places start long) (λ o. map_over r t b o (start + long - o)))
+  pub walk_file_over : ((walk_of t places start long).stop ≡ Err OffsetTooLarge) ↔ StopsWhere (FileOverAt (counted r)) places start long (walk_of t places start long)
+  walk_file_over = both_ways (walk_met t places start long OffsetTooLarge (omega arith)) (stops_map (walk_of t places start long) (λ o. map_over r t b o (start + long - o)))

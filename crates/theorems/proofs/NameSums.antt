@@ -1,6 +1,7 @@
 -- The name of an extent is part of its line, and the lines join to the descriptor.
 -- So all names together have at most as many bytes as the descriptor.
 -- Assumes nothing.
+use Rattle.std.specs.Prelude.{Err, None, Ok, Option, Result, Some}
 use Prim.Native.Nat.{ℕ, ◌+◌, ◌*◌, ◌≤◌}
 use native.Mathlib.Omega.{arith}
 use mathlib.Core.List.{List, [], ◌∷◌}
@@ -9,17 +10,15 @@ use lib.ListN.{length, take, drop, length-append, length-take, length-drop}
 use lib.Seq.{drop-append-add, drop-drop}
 use Rattle.text.specs.Lines.{lines_of, join_lines}
 use Rattle.text.specs.Text.{trim_of, trimmed}
-use Rattle.text.specs.declared.words.Trimmed.{Trimmed}
-use Rattle.text.specs.declared.words.Trimmed.TheVariants.{Range, Wrong}
 use Rattle.text.proofs.Lines.{lines_join}
 use Rattle.lines.specs.Record.{counted}
 use Rattle.lines.specs.Line.{first_blank, line_of}
-use Rattle.lines.specs.declared.line.Said.{Said}
-use Rattle.lines.specs.declared.line.Said.TheVariants.{Nothing, Extent, Set, Refused}
-use Rattle.lines.specs.declared.record.Verdict.TheVariants.{Sound}
+use Rattle.lines.specs.declared.line.Said.TheVariants.{Nothing, Extent, Set}
 use Rattle.lines.specs.declared.record.VmdkParsedExtent.{VmdkParsedExtent}
 use Rattle.lines.specs.declared.record.VmdkParsedStorage.{VmdkParsedStorage}
 use Rattle.lines.specs.declared.record.VmdkParsedStorage.TheVariants.{NoAccess, Zero, Flat}
+use Rattle.lines.specs.declared.line.Said.{Said}
+use Rattle.lines.specs.declared.record.Fault.{Fault}
 use Rattle.descriptor.specs.Read.{read_of}
 use Rattle.phrases.specs.Line.{name_in, name_of}
 use Rattle.report.specs.Room.{row_most}
@@ -46,9 +45,9 @@ trimmed_short : (t : List ℕ) → length (trimmed t) ≤ length t
 unfolding trimmed
 trimmed_short t = go (trim_of t) refl
   where
-    go : (r : Trimmed) → trim_of t ≡ r → length (trimmed t) ≤ length t
-    go (Range a e) q = rw q (simp (length-take, length-drop) (omega arith))
-    go Wrong q = rw q (omega arith)
+    go : (r : Option (ℕ × ℕ)) → trim_of t ≡ r → length (trimmed t) ≤ length t
+    go (Some (a, e)) q = rw q (simp (length-take, length-drop) (omega arith))
+    go None q = rw q (omega arith)
 
 module _ (d : List ℕ) (p : ℕ) (l : List ℕ) (lies : Lies d p l) where
   source_name : (access : List ℕ) (end : ℕ) (st : VmdkParsedStorage) → SourceIn d (trimmed l) access end st → length (name_of d (source_of st)) ≤ length l
@@ -60,17 +59,17 @@ module _ (d : List ℕ) (p : ℕ) (l : List ℕ) (lies : Lies d p l) where
       let w = ap length f.quotes.whole in
       rw f.named (omega (arith, trimmed_short f.middle, simp length-append at w, trimmed_short l))
 
-  said_name : (s : Said) → line_of p l ≡ s → total (name_bytes d) (extents_in (s ∷ [])) ≤ length l
+  said_name : (s : Result Said Fault) → line_of p l ≡ s → total (name_bytes d) (extents_in (s ∷ [])) ≤ length l
   unfolding total extents_in
-  said_name Nothing e = omega arith
-  said_name (Set v) e = omega arith
-  said_name (Refused n) e = omega arith
-  said_name (Extent x) e =
+  said_name (Ok Nothing) e = omega arith
+  said_name (Ok (Set v)) e = omega arith
+  said_name (Err n) e = omega arith
+  said_name (Ok (Extent x)) e =
       let i = extent_says d p l x lies e in
       omega (arith, source_name (take (first_blank (trimmed l)) (trimmed l)) i.end x.storage i.source)
 
 -- ---- all lines
-names_cons : (d : List ℕ) (s : Said) (ss : List Said) → total (name_bytes d) (extents_in (s ∷ ss)) ≡ total (name_bytes d) (extents_in (s ∷ [])) + total (name_bytes d) (extents_in ss)
+names_cons : (d : List ℕ) (s : Result Said Fault) (ss : List (Result Said Fault)) → total (name_bytes d) (extents_in (s ∷ ss)) ≡ total (name_bytes d) (extents_in (s ∷ [])) + total (name_bytes d) (extents_in ss)
 names_cons d s ss = rw (extents_cons s ss, total_append)
 
 names_none : (d : List ℕ) → total (name_bytes d) (extents_in []) ≡ 0
@@ -90,6 +89,6 @@ names_in d p (l ∷ m ∷ ls) h =
     (omega (arith, names_cons d (line_of p l) (sayings (p + length l + 1) (m ∷ ls)), names_in d (p + length l + 1) (m ∷ ls) g, said_name d p l (rw h (first_lies l (m ∷ ls))) (line_of p l) refl))
 
 -- the names of an accepted descriptor
-pub accepted_names : (d : List ℕ) → (read_of d).verdict ≡ Sound → total (name_bytes d) (counted (read_of d).descriptor) ≤ length d
+pub accepted_names : (d : List ℕ) → (read_of d).verdict ≡ (Ok tt) → total (name_bytes d) (counted (read_of d).descriptor) ≤ length d
 accepted_names d e =
     rw (accepted_extents d e) (omega (arith, names_in d 0 (lines_of d) (sym (lines_join d)), ap length (lines_join d)))

@@ -1,5 +1,6 @@
 -- The lines and the extents that they say take the same bytes off an offset, so both end in the same line, whose row has its name.
 -- So a place by an extent's number, with the number read as the row's name, is the place by the lines, and what is known of the one is known of the other.
+use Rattle.std.specs.Prelude.{Err, Ok, Result}
 use Prim.Native.Nat.{ℕ, suc, ◌+◌, ◌-◌, ◌<◌}
 use native.Mathlib.Omega.{arith}
 use mathlib.Core.List.{List, [], ◌∷◌, ◌++◌}
@@ -15,10 +16,8 @@ use Rattle.text.specs.Sector.{largest}
 use Rattle.text.specs.declared.sector.Sectors.{Sectors}
 use Rattle.text.proofs.Flat.{by_test}
 use Rattle.lines.specs.Line.{line_of}
-use Rattle.lines.specs.declared.line.Said.{Said}
-use Rattle.lines.specs.declared.line.Said.TheVariants.{Nothing, Extent, Set, Refused as LineRefused}
+use Rattle.lines.specs.declared.line.Said.TheVariants.{Nothing, Extent, Set}
 use Rattle.lines.specs.declared.record.Text.{Text}
-use Rattle.lines.specs.declared.record.Verdict.TheVariants.{Sound}
 use Rattle.lines.specs.declared.record.VmdkAccessType.{VmdkAccessType}
 use Rattle.lines.specs.declared.record.VmdkParsedStorage.{VmdkParsedStorage}
 use Rattle.lines.specs.declared.record.VmdkParsedStorage.TheVariants.{NoAccess, Zero, Flat}
@@ -27,8 +26,11 @@ use Rattle.tables.specs.declared.table.Table.{Table}
 use Rattle.tables.specs.declared.table.Piece.{Piece}
 use Rattle.tables.specs.declared.table.PieceSource.{PieceSource}
 use Rattle.tables.specs.declared.table.PieceSource.TheVariants.{Zero as ZeroPiece, Raw as RawPiece}
+use Rattle.tables.specs.declared.table.ShallowMapping.TheVariants.{Eof, Zero as ZeroAt, Raw}
+use Rattle.lines.specs.declared.line.Said.{Said}
 use Rattle.tables.specs.declared.table.ShallowMapping.{ShallowMapping}
-use Rattle.tables.specs.declared.table.ShallowMapping.TheVariants.{Eof, Zero as ZeroAt, Raw, Refused}
+use Rattle.lines.specs.declared.record.Fault.{Fault}
+use Rattle.lines.specs.declared.record.Fault.TheVariants.{Inaccessible, OffsetTooLarge}
 use Rattle.maps.specs.Alike.{AlikeTables}
 use Rattle.maps.specs.Map.{map_of}
 use Rattle.maps.specs.Place.{Place, past as end, locked as locked_by, zeros as zeros_by, file as file_by, within, bytes_in, place_from, place_of}
@@ -52,13 +54,13 @@ named f (file_by i a w) = file (f i) a w
 -- the lines that say an extent, from number i on, have these names
 abbrev Names : (ℕ → List ℕ) → ℕ → ℕ → List (List ℕ) → Type 0
 Names f p i ls =
-    (before : List (List ℕ)) (l : List ℕ) (after : List (List ℕ)) → ls ≡ before ++ l ∷ after → (s : Sectors) (a : VmdkAccessType) (name : Text) (start : Sectors) → line_of (place_after p before) l ≡ Extent (record { sectors = s; storage = Flat a name start }) → f (i + length (extents_in (sayings p before))) ≡ trimmed (in_quotes l)
+    (before : List (List ℕ)) (l : List ℕ) (after : List (List ℕ)) → ls ≡ before ++ l ∷ after → (s : Sectors) (a : VmdkAccessType) (name : Text) (start : Sectors) → line_of (place_after p before) l ≡ Ok (Extent (record { sectors = s; storage = Flat a name start })) → f (i + length (extents_in (sayings p before))) ≡ trimmed (in_quotes l)
 
 module _ (f : ℕ → List ℕ) (p : ℕ) (l : List ℕ) (ls : List (List ℕ)) where
   abbrev next : ℕ
   next = p + length l + 1
 
-  names_here : (i : ℕ) → Names f p i (l ∷ ls) → (s : Sectors) (a : VmdkAccessType) (name : Text) (start : Sectors) → line_of p l ≡ Extent (record { sectors = s; storage = Flat a name start }) → f i ≡ trimmed (in_quotes l)
+  names_here : (i : ℕ) → Names f p i (l ∷ ls) → (s : Sectors) (a : VmdkAccessType) (name : Text) (start : Sectors) → line_of p l ≡ Ok (Extent (record { sectors = s; storage = Flat a name start })) → f i ≡ trimmed (in_quotes l)
   unfolding place_after sayings extents_in
   names_here i n s a name start h =
       let e : i + 0 ≡ i = omega arith in rw e at (n [] l ls refl s a name start h)
@@ -71,17 +73,17 @@ module _ (f : ℕ → List ℕ) (p : ℕ) (l : List ℕ) (ls : List (List ℕ)) 
       rw g at (n (l ∷ before) m after (rw q) s a name start h)
 
   -- in the extent that the line says
-  byte_named : (i : ℕ) → Names f p i (l ∷ ls) → (s : Sectors) (st : VmdkParsedStorage) → line_of p l ≡ Extent (record { sectors = s; storage = st }) → (o : ℕ) → byte_by l st o ≡ named f (within i st o)
+  byte_named : (i : ℕ) → Names f p i (l ∷ ls) → (s : Sectors) (st : VmdkParsedStorage) → line_of p l ≡ Ok (Extent (record { sectors = s; storage = st })) → (o : ℕ) → byte_by l st o ≡ named f (within i st o)
   byte_named i n s NoAccess h o = refl
   byte_named i n s (Zero a) h o = refl
   byte_named i n s (Flat a name start) h o = rw (names_here i n s a name start h)
 
-  line_named : (i : ℕ) → Names f p i (l ∷ ls) → (o : ℕ) (s : Said) → line_of p l ≡ s → ((j : ℕ) → Names f next j ls → (o : ℕ) → place_by next ls o ≡ named f (place_from j (extents_in (sayings next ls)) o)) → byte_from l s o (λ o. place_by next ls o) ≡ named f (place_from i (extents_in (s ∷ sayings next ls)) o)
+  line_named : (i : ℕ) → Names f p i (l ∷ ls) → (o : ℕ) (s : Result Said Fault) → line_of p l ≡ s → ((j : ℕ) → Names f next j ls → (o : ℕ) → place_by next ls o ≡ named f (place_from j (extents_in (sayings next ls)) o)) → byte_from l s o (λ o. place_by next ls o) ≡ named f (place_from i (extents_in (s ∷ sayings next ls)) o)
   unfolding extents_in place_from
-  line_named i n o Nothing e r = r i (names_next i i (rw e (omega arith)) n) o
-  line_named i n o (Set v) e r = r i (names_next i i (rw e (omega arith)) n) o
-  line_named i n o (LineRefused m) e r = r i (names_next i i (rw e (omega arith)) n) o
-  line_named i n o (Extent x) e r =
+  line_named i n o (Ok Nothing) e r = r i (names_next i i (rw e (omega arith)) n) o
+  line_named i n o (Ok (Set v)) e r = r i (names_next i i (rw e (omega arith)) n) o
+  line_named i n o (Err m) e r = r i (names_next i i (rw e (omega arith)) n) o
+  line_named i n o (Ok (Extent x)) e r =
       by_test (ltb o (bytes_in x)) (λ g. rw g (byte_named i n x.sectors x.storage e o))
       (λ g. rw g (r (suc i) (names_next i (suc i) (rw e (omega arith)) n) (o - bytes_in x)))
 
@@ -105,30 +107,30 @@ named_run f (zeros_by i) run = refl
 named_run f (file_by i a w) run = refl
 
 -- ---- where a refusal is due
-due_locked : (q : NamedPlace) → due_at q ≡ refused 21 ↔ q ≡ locked
+due_locked : (q : NamedPlace) → due_at q ≡ refused Inaccessible ↔ q ≡ locked
 due_locked past = (λ e. cc, λ e. cc)
 due_locked locked = (λ e. refl, λ e. refl)
 due_locked zeros = (λ e. cc, λ e. cc)
 due_locked (file name f w) = (
   λ e. by_test (leb f largest)
-      (λ g. let k : at (file name f w) ≡ refused 21 = rw g at e in cc)
-      (λ g. let k : refused 22 ≡ refused 21 = rw g at e in let z : ◌≡◌ {A = ℕ} 22 21 = cc in absurd (omega arith)),
+      (λ g. let k : at (file name f w) ≡ refused Inaccessible = rw g at e in cc)
+      (λ g. let k : refused OffsetTooLarge ≡ refused Inaccessible = rw g at e in let z : ◌≡◌ {A = ℕ} 22 21 = cc in absurd (omega arith)),
   λ e. cc,
 )
 
-due_far : (q : NamedPlace) → due_at q ≡ refused 22 ↔ TooFar q
+due_far : (q : NamedPlace) → due_at q ≡ refused OffsetTooLarge ↔ TooFar q
 due_far past = (λ e. let z : ◌≡◌ {A = ℕ} 0 1 = cc in absurd (omega arith), λ h. let e = h.3 in cc)
 due_far locked = (λ e. let z : ◌≡◌ {A = ℕ} 21 22 = cc in absurd (omega arith), λ h. let e = h.3 in cc)
 due_far zeros = (λ e. let z : ◌≡◌ {A = ℕ} 0 1 = cc in absurd (omega arith), λ h. let e = h.3 in cc)
 due_far (file name f w) = (
   λ e. by_test (leb f largest)
-      (λ g. let k : at (file name f w) ≡ refused 22 = rw g at e in let z : ◌≡◌ {A = ℕ} 0 1 = cc in absurd (omega arith))
+      (λ g. let k : at (file name f w) ≡ refused OffsetTooLarge = rw g at e in let z : ◌≡◌ {A = ℕ} 0 1 = cc in absurd (omega arith))
       (λ g. (name, f, w, refl, leb-false f largest g)),
   λ h. let e = h.3 in let q : f ≡ h.1 = cc in let k : largest < f = rw q h.4 in rw (lt-leb f largest k),
 )
 
 -- ---- of a table u of the same disk as the one that a descriptor builds
-module _ (d : List ℕ) (u t : Table) (same : AlikeTables u t) (a : (read_of d).verdict ≡ Sound) (b : Builds (read_of d).descriptor t) where
+module _ (d : List ℕ) (u t : Table) (same : AlikeTables u t) (a : (read_of d).verdict ≡ (Ok tt)) (b : Builds (read_of d).descriptor t) where
   row_names : Names (name_at d u) 0 0 (lines_of d)
   row_names before l after q s acc name start h =
       let i : ℕ = length (extents_in (sayings 0 before)) in
@@ -163,17 +165,17 @@ module _ (d : List ℕ) (u t : Table) (same : AlikeTables u t) (a : (read_of d).
   shown_due (file_by i f w) = by_test (leb f largest) (λ e. rw e) (λ e. rw e)
 
   -- a mapping is refused exactly if it shows the refusal
-  seen_refused : (m : ShallowMapping) (n : ℕ) → m ≡ Refused n ↔ seen_by d u m ≡ refused n
-  seen_refused Eof n = (λ e. cc, λ e. cc)
-  seen_refused (ZeroAt i) n = (λ e. cc, λ e. cc)
-  seen_refused (Raw i f w) n = (λ e. cc, λ e. cc)
-  seen_refused (Refused m) n = (λ e. let q : m ≡ n = cc in ap refused q, λ e. let q : m ≡ n = cc in ap Refused q)
+  seen_refused : (m : Result ShallowMapping Fault) (n : Fault) → m ≡ Err n ↔ seen_by d u m ≡ refused n
+  seen_refused (Ok Eof) n = (λ e. cc, λ e. cc)
+  seen_refused (Ok (ZeroAt i)) n = (λ e. cc, λ e. cc)
+  seen_refused (Ok (Raw i f w)) n = (λ e. cc, λ e. cc)
+  seen_refused (Err m) n = (λ e. let q : m ≡ n = cc in ap refused q, λ e. let q : m ≡ n = cc in ap Err q)
 
   module _ (o asked : ℕ) (h : MapsBy (extents_in (sayings_of d)) u o asked) where
     shows : seen_by d u (map_of u o asked).mapping ≡ due_at (place_in d o)
     shows = ap (seen_by d u) h.mapping ∙ shown_due (place_of (extents_in (sayings_of d)) o) ∙ ap due_at (sym (place_named o))
 
-    refused_due : (n : ℕ) {P : Type 0} → due_at (place_in d o) ≡ refused n ↔ P → (map_of u o asked).mapping ≡ Refused n ↔ P
+    refused_due : (n : Fault) {P : Type 0} → due_at (place_in d o) ≡ refused n ↔ P → (map_of u o asked).mapping ≡ Err n ↔ P
     refused_due n e =
         let m = seen_refused (map_of u o asked).mapping n in
         (λ q. e.0 (sym shows ∙ m.0 q), λ q. m.1 (shows ∙ e.1 q))
@@ -183,8 +185,8 @@ module _ (d : List ℕ) (u t : Table) (same : AlikeTables u t) (a : (read_of d).
         let ends = named_past (name_at d u) (place_of (extents_in (sayings_of d)) o) in
         record {
           shows = shows;
-          no_access = refused_due 21 (due_locked (place_in d o));
-          too_far = refused_due 22 (due_far (place_in d o));
+          no_access = refused_due Inaccessible (due_locked (place_in d o));
+          too_far = refused_due OffsetTooLarge (due_far (place_in d o));
           end = (λ e. h.end.0 (ends.0 (sym (place_named o) ∙ e)), λ e. place_named o ∙ ends.1 (h.end.1 e));
           run = rw (place_named o, named_run (name_at d u) (place_of (extents_in (sayings_of d)) o)) h.run;
           row = h.mapping;

@@ -1,5 +1,6 @@
 -- A line passes or answers by its text before the first `=`, if it is UTF-8; one that is not answers no.
 -- So probing says yes exactly if the first line that does not pass says a version from 1 to 3.
+use Rattle.std.specs.Prelude.{None, Option, Some}
 use Prim.Native.Nat.{ℕ, ◌≤◌}
 use native.Mathlib.Omega.{arith}
 use mathlib.Core.List.{List, [], ◌∷◌, ◌++◌}
@@ -15,10 +16,6 @@ use Rattle.text.specs.Lines.{count, lines_of}
 use Rattle.text.specs.Number.{number_of}
 use Rattle.text.specs.Ranges.{pick}
 use Rattle.text.specs.Text.{text_at, sound, trim_of, trimmed}
-use Rattle.text.specs.declared.number.Num.{Num}
-use Rattle.text.specs.declared.number.Num.TheVariants.{Value, Bad}
-use Rattle.text.specs.declared.words.Trimmed.{Trimmed}
-use Rattle.text.specs.declared.words.Trimmed.TheVariants.{Range, Wrong}
 use Rattle.text.proofs.Finds.{same_is}
 use Rattle.text.proofs.Flat.{by_test, within_in}
 use Rattle.text.proofs.Trims.{trim_wrong}
@@ -26,35 +23,34 @@ use Rattle.lines.specs.Line.{version_limit}
 use Rattle.lines.specs.Record.{most_bytes}
 use Rattle.descriptor.specs.Read.{least_bytes, sparse}
 use Rattle.probing.specs.Probe.{verdict_of, probe_key, probe_line, probe_lines, probe_of}
-use Rattle.probing.specs.declared.probe.Probed.TheVariants.{Pass, Answer}
 use Rattle.theorems.specs.Probing.{VersionLine, PassedOver, OneToThree, FirstSays}
 use Rattle.theorems.specs.Tiling.{All}
 use Rattle.theorems.proofs.KeyLines.{cut_by}
 use Rattle.theorems.proofs.Versions.{key_probed, key_passed}
 
 -- ---- one line
-text_probed : (l : List ℕ) (r : Trimmed) → trim_of l ≡ r → sound (text_at l 0) ≡ true → probe_line l ≡ probe_key l (find_at 0x3D l 0)
+text_probed : (l : List ℕ) (r : Option (ℕ × ℕ)) → trim_of l ≡ r → sound (text_at l 0) ≡ true → probe_line l ≡ probe_key l (find_at 0x3D l 0)
 unfolding probe_line
-text_probed l (Range a e) q s = rw q
-text_probed l Wrong q s =
+text_probed l (Some (a, e)) q s = rw q
+text_probed l None q s =
     let f : sound (text_at l 0) ≡ false = (trim_wrong l).0 q in let z : ◌≡◌ {A = ℕ} 0 1 = cc in absurd (omega arith)
 
-no_text : (l : List ℕ) → sound (text_at l 0) ≡ false → probe_line l ≡ Answer false
+no_text : (l : List ℕ) → sound (text_at l 0) ≡ false → probe_line l ≡ Some false
 unfolding probe_line
 no_text l f = rw ((trim_wrong l).1 f)
 
-version_answers : (l rest : List ℕ) → VersionLine l rest → probe_key l (find_at 0x3D l 0) ≡ Answer (verdict_of (number_of version_limit (trimmed rest)))
+version_answers : (l rest : List ℕ) → VersionLine l rest → probe_key l (find_at 0x3D l 0) ≡ Some (verdict_of (number_of version_limit (trimmed rest)))
 unfolding same
 version_answers l rest v = key_probed l v.before rest v.whole v.first ∙ rw v.key
 
-version_probed : (l rest : List ℕ) → sound (text_at l 0) ≡ true → VersionLine l rest → probe_line l ≡ Answer (verdict_of (number_of version_limit (trimmed rest)))
+version_probed : (l rest : List ℕ) → sound (text_at l 0) ≡ true → VersionLine l rest → probe_line l ≡ Some (verdict_of (number_of version_limit (trimmed rest)))
 version_probed l rest s v = text_probed l (trim_of l) refl s ∙ version_answers l rest v
 
-passes : (l : List ℕ) → probe_key l (find_at 0x3D l 0) ≡ Pass → (rest : List ℕ) → VersionLine l rest → ⊥
+passes : (l : List ℕ) → probe_key l (find_at 0x3D l 0) ≡ None → (rest : List ℕ) → VersionLine l rest → ⊥
 passes l e rest v = let a = version_answers l rest v in let z : ◌≡◌ {A = ℕ} 0 1 = cc in absurd (omega arith)
 
 -- a line that is UTF-8 has the key `version`, or passes
-by_key : {C : Type 0} (l : List ℕ) → ((rest : List ℕ) → VersionLine l rest → C) → (probe_key l (find_at 0x3D l 0) ≡ Pass → C) → C
+by_key : {C : Type 0} (l : List ℕ) → ((rest : List ℕ) → VersionLine l rest → C) → (probe_key l (find_at 0x3D l 0) ≡ None → C) → C
 by_key l f g =
     cut_by 0x3D l (count 0x3D l) refl
     (λ n. g (key_passed l n))
@@ -62,16 +58,16 @@ by_key l f g =
     (λ k. f r (record { before = a; whole = e; first = n; key = same_is (trimmed a) (ascii "version") k }))
     (λ k. g (key_probed l a r e n ∙ rw k)))
 
-passed_probed : (l : List ℕ) → PassedOver l → probe_line l ≡ Pass
+passed_probed : (l : List ℕ) → PassedOver l → probe_line l ≡ None
 passed_probed l p = by_key l (λ rest v. absurd (p.1 rest v)) (λ e. text_probed l (trim_of l) refl p.0 ∙ e)
 
 -- ---- a number 1 to 3
-one_to_three : (m : Num) → verdict_of m ≡ true → (n : ℕ) × (m ≡ Value n) × (1 ≤ n) × (n ≤ 3)
-one_to_three (Value v) h =
+one_to_three : (m : Option ℕ) → verdict_of m ≡ true → (n : ℕ) × (m ≡ Some n) × (1 ≤ n) × (n ≤ 3)
+one_to_three (Some v) h =
     by_test (leb 1 v)
     (λ e. let g : leb v 3 ≡ true = rw e at h in (v, refl, leb-true 1 v e, leb-true v 3 g))
     (λ e. let g : false ≡ true = rw e at h in let z : ◌≡◌ {A = ℕ} 0 1 = cc in absurd (omega arith))
-one_to_three Bad h = let z : ◌≡◌ {A = ℕ} 0 1 = cc in absurd (omega arith)
+one_to_three None h = let z : ◌≡◌ {A = ℕ} 0 1 = cc in absurd (omega arith)
 
 says_yes : (rest : List ℕ) → OneToThree rest → verdict_of (number_of version_limit (trimmed rest)) ≡ true
 says_yes rest w = rw w.1 (within_in 1 3 w.0 w.2 w.3)
@@ -96,7 +92,7 @@ lines_say (l ∷ ls) h = by_test (sound (text_at l 0)) (λ s. by_key l (says s) 
           says = one_to_three (number_of version_limit (trimmed rest)) (rw (version_probed l rest s v) at h);
         }
 
-    over : sound (text_at l 0) ≡ true → probe_key l (find_at 0x3D l 0) ≡ Pass → FirstSays ls → FirstSays (l ∷ ls)
+    over : sound (text_at l 0) ≡ true → probe_key l (find_at 0x3D l 0) ≡ None → FirstSays ls → FirstSays (l ∷ ls)
     over s e w =
         record {
           before = l ∷ w.before;
@@ -113,14 +109,14 @@ lines_say (l ∷ ls) h = by_test (sound (text_at l 0)) (λ s. by_key l (says s) 
     none : sound (text_at l 0) ≡ false → FirstSays (l ∷ ls)
     none f = let g : false ≡ true = rw (no_text l f) at h in let z : ◌≡◌ {A = ℕ} 0 1 = cc in absurd (omega arith)
 
-said_yes : (before : List (List ℕ)) (l : List ℕ) (after : List (List ℕ)) → All PassedOver before → probe_line l ≡ Answer true → probe_lines (before ++ l ∷ after) ≡ true
+said_yes : (before : List (List ℕ)) (l : List ℕ) (after : List (List ℕ)) → All PassedOver before → probe_line l ≡ Some true → probe_lines (before ++ l ∷ after) ≡ true
 unfolding probe_lines
 said_yes [] l after p e = rw e
 said_yes (b ∷ bs) l after p e = rw (passed_probed b p.0) (said_yes bs l after p.1 e)
 
 lines_yes : (ls : List (List ℕ)) → FirstSays ls → probe_lines ls ≡ true
 lines_yes ls w =
-    rw w.lines (said_yes w.before w.line w.after w.passed (version_probed w.line w.rest w.text w.version ∙ ap Answer (says_yes w.rest w.says)))
+    rw w.lines (said_yes w.before w.line w.after w.passed (version_probed w.line w.rest w.text w.version ∙ ap Some (says_yes w.rest w.says)))
 
 -- ---- the whole descriptor
 abbrev Yes : List ℕ → Type 0

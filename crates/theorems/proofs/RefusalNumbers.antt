@@ -1,5 +1,6 @@
 -- Each rule of a trimmed line that refuses it names its own number, 5 to 15, and none names 4.
 -- So a line is refused with 4 exactly if trimming refuses it, which is if it is not UTF-8.
+use Rattle.std.specs.Prelude.{Err, None, Ok, Option, Result, Some}
 use Prim.Native.Nat.{ℕ, ◌+◌, ◌≤◌}
 use native.Mathlib.Omega.{arith}
 use mathlib.Core.List.{List}
@@ -8,63 +9,56 @@ use mathlib.Core.Bool.{false}
 use mathlib.Core.Path.{◌≡◌, refl, subst}
 use lib.ListN.{length, take, drop}
 use lib.Dec.{ltb}
-use Rattle.text.specs.Text.{text_at, sound, trim_of, trimmed}
-use Rattle.text.specs.Find.{find_at}
+use Rattle.text.specs.Text.{text_at, sound, trim_of, trimmed, word_of}
+use Rattle.text.specs.Find.{find_at, same}
 use Rattle.text.specs.Number.{number_of}
-use Rattle.text.specs.declared.words.Trimmed.{Trimmed}
-use Rattle.text.specs.declared.words.Trimmed.TheVariants.{Range, Wrong}
-use Rattle.text.specs.declared.find.Place.{Place}
-use Rattle.text.specs.declared.find.Place.TheVariants.{Here, Nowhere}
-use Rattle.text.specs.declared.number.Num.{Num}
-use Rattle.text.specs.declared.number.Num.TheVariants.{Value, Bad}
 use Rattle.text.specs.declared.sector.Sectors.{Sectors}
-use Rattle.text.specs.declared.sector.SectorCount.{SectorCount}
-use Rattle.text.specs.declared.sector.SectorCount.TheVariants.{Count as Sectors-as-Count, Bad as Sectors-as-Bad}
 use Rattle.text.proofs.Trims.{trim_wrong}
 use Rattle.text.proofs.Flat.{pick_all}
 use Rattle.keys.specs.Key.{key_of}
 use Rattle.lines.specs.Kept.{kept_of}
-use Rattle.lines.specs.Extent.{part, second_of, third_of, three_words, between_quotes, after_quote, file_name_of, file_start_of, flat_from, flat_by, flat_line, no_access_by, no_access_line, by_third, by_second, extent_line}
+use Rattle.lines.specs.Extent.{part, second_of, third_of, three_words, between_quotes, after_quote, file_name_of, file_start_of, flat_from, flat_by, flat_line, no_access_by, no_access_line, by_third, by_second, extent_line, third_word}
 use Rattle.lines.specs.Line.{version_limit, version_by, version_of, geometry_of, geometry_by, geometry_line, value_of, key_by, key_line, access_word, access_line, first_blank, skipped, text_line, trimmed_line, line_of}
 use Rattle.keys.specs.declared.key.Key.{Key}
 use Rattle.keys.specs.declared.key.Key.TheVariants.{Version, Cid, ParentCid, CreateType, ParentFileNameHint, Geometry as Geometry-as-Key, Ddb, Unknown}
 use Rattle.keys.specs.declared.key.Geometry.{Geometry}
-use Rattle.lines.specs.declared.extent.Second.{Second}
-use Rattle.lines.specs.declared.extent.Second.TheVariants.{Count, Bad as Second-as-Bad}
 use Rattle.lines.specs.declared.extent.Third.{Third}
-use Rattle.lines.specs.declared.extent.Third.TheVariants.{Missing, Zero, Flat, Unsupported}
-use Rattle.lines.specs.declared.extent.FileName.{FileName}
-use Rattle.lines.specs.declared.extent.FileName.TheVariants.{Name, Refused as NameRefused}
-use Rattle.lines.specs.declared.line.Said.{Said}
-use Rattle.lines.specs.declared.line.Said.TheVariants.{Nothing, Extent, Set, Refused}
+use Rattle.lines.specs.declared.extent.Third.TheVariants.{Zero, Flat}
+use Rattle.lines.specs.declared.line.Said.TheVariants.{Nothing, Extent, Set}
 use Rattle.lines.specs.declared.line.AccessWord.{AccessWord}
 use Rattle.lines.specs.declared.line.AccessWord.TheVariants.{NoAccess, RdOnly, RW, Other}
 use Rattle.lines.specs.declared.record.VmdkAccessType.{VmdkAccessType}
 use Rattle.lines.specs.declared.record.VmdkAccessType.TheVariants.{RdOnly as ReadOnly, RW as ReadWrite}
 use Rattle.lines.specs.declared.record.VmdkParsedStorage.{VmdkParsedStorage}
+use Rattle.lines.specs.declared.line.Said.{Said}
+use Rattle.lines.specs.declared.record.Text.{Text}
+use Rattle.lines.specs.declared.record.Fault.{Fault}
+use Rattle.lines.specs.declared.record.Fault.TheVariants.{NotUtf8, NotThreeWords, OtherType}
+use Rattle.lines.specs.Fault.{refusal_number}
+use Rattle.text.specs.Ascii.{ascii}
 
 -- what a line with a key says: no extent, and its refusals are 12 to 15
-abbrev pub OfKey : Said → Type 0
-OfKey Nothing = Unit {0}
-OfKey (Set v) = Unit {0}
-OfKey (Extent x) = ⊥
-OfKey (Refused n) = (12 ≤ n) × (n ≤ 15)
+abbrev pub OfKey : Result Said Fault → Type 0
+OfKey (Ok Nothing) = Unit {0}
+OfKey (Ok (Set v)) = Unit {0}
+OfKey (Ok (Extent x)) = ⊥
+OfKey (Err n) = (12 ≤ refusal_number n) × (refusal_number n ≤ 15)
 
 -- what an extent line says: an extent, or a refusal 5 to 11
-abbrev pub OfExtent : Said → Type 0
-OfExtent Nothing = ⊥
-OfExtent (Set v) = ⊥
-OfExtent (Extent x) = Unit {0}
-OfExtent (Refused n) = (5 ≤ n) × (n ≤ 11)
+abbrev pub OfExtent : Result Said Fault → Type 0
+OfExtent (Ok Nothing) = ⊥
+OfExtent (Ok (Set v)) = ⊥
+OfExtent (Ok (Extent x)) = Unit {0}
+OfExtent (Err n) = (5 ≤ refusal_number n) × (refusal_number n ≤ 11)
 
 -- ---- a line with a key
-key_version : (n : Num) → OfKey (version_by n)
-key_version (Value v) = tt
-key_version Bad = omega arith
+key_version : (n : Option ℕ) → OfKey (version_by n)
+key_version (Some v) = tt
+key_version None = omega arith
 
-key_geometry : (g : Geometry) (n : Num) → OfKey (geometry_by g n)
-key_geometry g (Value v) = tt
-key_geometry g Bad = omega arith
+key_geometry : (g : Geometry) (n : Option ℕ) → OfKey (geometry_by g n)
+key_geometry g (Some v) = tt
+key_geometry g None = omega arith
 
 key_value : (k : Key) (p : ℕ) (v : List ℕ) → OfKey (value_of k p v)
 unfolding value_of version_of geometry_line
@@ -77,53 +71,67 @@ key_value (Geometry-as-Key g) p v = key_geometry g (geometry_of v)
 key_value Ddb p v = tt
 key_value Unknown p v = omega arith
 
-key_key : (p : ℕ) (t : List ℕ) (f : Place) → OfKey (key_by p t f)
-key_key p t Nowhere = tt
-key_key p t (Here i) = key_value (key_of (trimmed (take i t))) (p + (i + 1)) (drop (i + 1) t)
+key_key : (p : ℕ) (t : List ℕ) (f : Option ℕ) → OfKey (key_by p t f)
+key_key p t None = tt
+key_key p t (Some i) = key_value (key_of (trimmed (take i t))) (p + (i + 1)) (drop (i + 1) t)
 
 pub key_keys : (p : ℕ) (t : List ℕ) → OfKey (key_line p t)
 unfolding key_line
 key_keys p t = key_key p t (find_at 0x3D t 0)
 
 -- ---- an extent line
-abbrev LateName : FileName → Type 0
-LateName (Name x e) = Unit {0}
-LateName (NameRefused n) = (5 ≤ n) × (n ≤ 11)
+abbrev LateName : Result (Text × ℕ) Fault → Type 0
+LateName (Ok (x, e)) = Unit {0}
+LateName (Err n) = (5 ≤ refusal_number n) × (refusal_number n ≤ 11)
 
-late_between : (p : ℕ) (t : List ℕ) (i : ℕ) (f : Place) → LateName (between_quotes p t i f)
-late_between p t i Nowhere = omega arith
-late_between p t i (Here j) = pick_all LateName (three_words (take i t)) (Name (kept_of (p + (i + 1)) (part t (i + 1) j)) (j + 1)) (NameRefused 10) tt (omega arith)
+late_between : (p : ℕ) (t : List ℕ) (i : ℕ) (f : Option ℕ) → LateName (between_quotes p t i f)
+late_between p t i None = omega arith
+late_between p t i (Some j) = pick_all LateName (three_words (take i t)) (Ok (kept_of (p + (i + 1)) (part t (i + 1) j), j + 1)) (Err NotThreeWords) tt (omega arith)
 
-late_quote : (p : ℕ) (t : List ℕ) (f : Place) → LateName (after_quote p t f)
-late_quote p t Nowhere = omega arith
-late_quote p t (Here i) = late_between p t i (find_at 0x22 t (i + 1))
+late_quote : (p : ℕ) (t : List ℕ) (f : Option ℕ) → LateName (after_quote p t f)
+late_quote p t None = omega arith
+late_quote p t (Some i) = late_between p t i (find_at 0x22 t (i + 1))
 
 late_name : (p : ℕ) (t : List ℕ) → LateName (file_name_of p t)
 unfolding file_name_of
 late_name p t = late_quote p t (find_at 0x22 t 0)
 
-extent_from : (c : SectorCount) (a : VmdkAccessType) (s : Sectors) (file : Sectors → VmdkParsedStorage) → OfExtent (flat_from c a s file)
-extent_from (Sectors-as-Count start) a s file = tt
-extent_from Sectors-as-Bad a s file = omega arith
+extent_from : (c : Option Sectors) (a : VmdkAccessType) (s : Sectors) (file : Sectors → VmdkParsedStorage) → OfExtent (flat_from c a s file)
+extent_from (Some start) a s file = tt
+extent_from None a s file = omega arith
 
-extent_by : (f : FileName) (a : VmdkAccessType) (s : Sectors) (t : List ℕ) → LateName f → OfExtent (flat_by f a s t)
-extent_by (Name name after) a s t h = extent_from (file_start_of t after) a s _
-extent_by (NameRefused n) a s t h = h
+extent_by : (f : Result (Text × ℕ) Fault) (a : VmdkAccessType) (s : Sectors) (t : List ℕ) → LateName f → OfExtent (flat_by f a s t)
+extent_by (Ok (name, after)) a s t h = extent_from (file_start_of t after) a s _
+extent_by (Err n) a s t h = h
 
-extent_third : (k : Third) (a : VmdkAccessType) (s : Sectors) (p : ℕ) (t : List ℕ) → OfExtent (by_third k a s p t)
+-- what the third word is refused for
+abbrev LateType : Result Third Fault → Type 0
+LateType (Ok k) = Unit {0}
+LateType (Err f) = (5 ≤ refusal_number f) × (refusal_number f ≤ 11)
+
+late_type : (t : List ℕ) (w : Option (ℕ × ℕ)) → LateType (third_word t w)
+late_type t None = omega arith
+late_type t (Some (a, e)) =
+    pick_all LateType (same (part t a e) (ascii "ZERO")) (Ok Zero) _ tt
+    (pick_all LateType (same (part t a e) (ascii "FLAT")) (Ok Flat) (Err OtherType) tt (omega arith))
+
+late_third : (t : List ℕ) (end : ℕ) → LateType (third_of t end)
+unfolding third_of
+late_third t end = late_type t (word_of t end)
+
+extent_third : (k : Result Third Fault) (a : VmdkAccessType) (s : Sectors) (p : ℕ) (t : List ℕ) → LateType k → OfExtent (by_third k a s p t)
 unfolding flat_line
-extent_third Missing a s p t = omega arith
-extent_third Zero a s p t = tt
-extent_third Flat a s p t = extent_by (file_name_of p t) a s t (late_name p t)
-extent_third Unsupported a s p t = omega arith
+extent_third (Ok Zero) a s p t h = tt
+extent_third (Ok Flat) a s p t h = extent_by (file_name_of p t) a s t (late_name p t)
+extent_third (Err f) a s p t h = h
 
-extent_second : (n : Second) (a : VmdkAccessType) (p : ℕ) (t : List ℕ) → OfExtent (by_second n a p t)
-extent_second (Count s e) a p t = extent_third (third_of t e) a s p t
-extent_second Second-as-Bad a p t = omega arith
+extent_second : (n : Option (Sectors × ℕ)) (a : VmdkAccessType) (p : ℕ) (t : List ℕ) → OfExtent (by_second n a p t)
+extent_second (Some (s, e)) a p t = extent_third (third_of t e) a s p t (late_third t e)
+extent_second None a p t = omega arith
 
-extent_locked : (n : Second) → OfExtent (no_access_by n)
-extent_locked (Count s e) = tt
-extent_locked Second-as-Bad = omega arith
+extent_locked : (n : Option (Sectors × ℕ)) → OfExtent (no_access_by n)
+extent_locked (Some (s, e)) = tt
+extent_locked None = omega arith
 
 pub extent_locked_line : (t : List ℕ) (end : ℕ) → OfExtent (no_access_line t end)
 unfolding no_access_line
@@ -135,23 +143,23 @@ extent_line_lem a p t end = extent_second (second_of t end) a p t
 
 -- ---- a line
 -- what is refused is refused with a number from 5 to 15
-abbrev Late : Said → Type 0
-Late Nothing = Unit {0}
-Late (Extent x) = Unit {0}
-Late (Set s) = Unit {0}
-Late (Refused n) = (5 ≤ n) × (n ≤ 15)
+abbrev Late : Result Said Fault → Type 0
+Late (Ok Nothing) = Unit {0}
+Late (Ok (Extent x)) = Unit {0}
+Late (Ok (Set s)) = Unit {0}
+Late (Err n) = (5 ≤ refusal_number n) × (refusal_number n ≤ 15)
 
-late_of_key : (s : Said) → OfKey s → Late s
-late_of_key Nothing h = tt
-late_of_key (Set v) h = tt
-late_of_key (Extent x) h = tt
-late_of_key (Refused n) h = omega arith
+late_of_key : (s : Result Said Fault) → OfKey s → Late s
+late_of_key (Ok Nothing) h = tt
+late_of_key (Ok (Set v)) h = tt
+late_of_key (Ok (Extent x)) h = tt
+late_of_key (Err n) h = omega arith
 
-late_of_extent : (s : Said) → OfExtent s → Late s
-late_of_extent Nothing h = tt
-late_of_extent (Set v) h = tt
-late_of_extent (Extent x) h = tt
-late_of_extent (Refused n) h = omega arith
+late_of_extent : (s : Result Said Fault) → OfExtent s → Late s
+late_of_extent (Ok Nothing) h = tt
+late_of_extent (Ok (Set v)) h = tt
+late_of_extent (Ok (Extent x)) h = tt
+late_of_extent (Err n) h = omega arith
 
 late_access : (w : AccessWord) (p : ℕ) (t : List ℕ) (end : ℕ) → Late (access_line w p t end)
 unfolding access_line
@@ -163,24 +171,24 @@ late_access Other p t end = late_of_key (key_line p t) (key_keys p t)
 late_line : (p : ℕ) (t : List ℕ) → Late (text_line p t)
 unfolding text_line
 late_line p t =
-    pick_all Late (skipped t) Nothing _ tt
+    pick_all Late (skipped t) (Ok Nothing) _ tt
     (pick_all Late (ltb (first_blank t) (length t)) (access_line (access_word (take (first_blank t) t)) p t (first_blank t)) (key_line p t)
     (late_access (access_word (take (first_blank t) t)) p t (first_blank t)) (late_of_key (key_line p t) (key_keys p t)))
 
-late_trimmed : (p : ℕ) (l : List ℕ) (r : Trimmed) → trimmed_line p l r ≡ Refused 4 → r ≡ Wrong
-late_trimmed p l (Range a e) h = let g : (5 ≤ 4) × (4 ≤ 15) = subst Late h (late_line (p + a) (part l a e)) in absurd (omega arith)
-late_trimmed p l Wrong h = refl
+late_trimmed : (p : ℕ) (l : List ℕ) (r : Option (ℕ × ℕ)) → trimmed_line p l r ≡ Err NotUtf8 → r ≡ None
+late_trimmed p l (Some (a, e)) h = let g : (5 ≤ 4) × (4 ≤ 15) = subst Late h (late_line (p + a) (part l a e)) in absurd (omega arith)
+late_trimmed p l None h = refl
 
-line_late : (p : ℕ) (l : List ℕ) (r : Trimmed) (n : ℕ) → trimmed_line p l r ≡ Refused n → (4 ≤ n) × (n ≤ 15)
-line_late p l (Range a e) n h = let g : (5 ≤ n) × (n ≤ 15) = subst Late h (late_line (p + a) (part l a e)) in omega arith
-line_late p l Wrong n h = let q : 4 ≡ n = cc in omega arith
+line_late : (p : ℕ) (l : List ℕ) (r : Option (ℕ × ℕ)) (n : Fault) → trimmed_line p l r ≡ Err n → (4 ≤ refusal_number n) × (refusal_number n ≤ 15)
+line_late p l (Some (a, e)) n h = let g : (5 ≤ refusal_number n) × (refusal_number n ≤ 15) = subst Late h (late_line (p + a) (part l a e)) in omega arith
+line_late p l None n h = let q : NotUtf8 ≡ n = cc in rw (← q) (omega arith)
 
 -- a line is refused with a number from 4 to 15
-pub line_number : (p : ℕ) (l : List ℕ) (n : ℕ) → line_of p l ≡ Refused n → (4 ≤ n) × (n ≤ 15)
+pub line_number : (p : ℕ) (l : List ℕ) (n : Fault) → line_of p l ≡ Err n → (4 ≤ refusal_number n) × (refusal_number n ≤ 15)
 unfolding line_of
 line_number p l n h = line_late p l (trim_of l) n h
 
 -- a line is refused with 4 exactly if it is not UTF-8
-pub four : (p : ℕ) (l : List ℕ) → (line_of p l ≡ Refused 4) ↔ (sound (text_at l 0) ≡ false)
+pub four : (p : ℕ) (l : List ℕ) → (line_of p l ≡ Err NotUtf8) ↔ (sound (text_at l 0) ≡ false)
 unfolding line_of
 four p l = (λ h. (trim_wrong l).0 (late_trimmed p l (trim_of l) h), λ h. rw ((trim_wrong l).1 h))

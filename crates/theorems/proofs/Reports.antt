@@ -1,6 +1,7 @@
 -- A report is the probe's line and then, by the verdict of reading and building, the refusal or the table's lines.
 -- The report of document 01 is computed.
 -- Assumes nothing.
+use Rattle.std.specs.Prelude.{Err, Ok}
 use Prim.Native.Nat.{ℕ, ◌≤◌, ◌<◌}
 use mathlib.Core.List.{List, [], ◌∷◌, ◌++◌, append_assoc}
 use mathlib.Core.Logic.{◌⊎◌, inl, inr}
@@ -20,16 +21,13 @@ use Rattle.keys.specs.Key.{geometry_key, key_of}
 use Rattle.lines.specs.Kept.{kept_at, kept_of, unquoted_of}
 use Rattle.lines.specs.Extent.{second_of, third_of, three_words, file_name_of, file_start_of, flat_line, no_access_line, extent_line}
 use Rattle.lines.specs.Line.{version_of, geometry_of, geometry_line, value_of, key_line, access_word as word_of_access, access_line, text_line, line_of}
-use Rattle.lines.specs.Record.{filled, read_in, bare}
+use Rattle.lines.specs.Record.{filled, read_in, bare, Verdict}
 use Rattle.lines.specs.declared.record.Text.{Text}
 use Rattle.lines.specs.declared.record.Refusal.{Refusal}
-use Rattle.lines.specs.declared.record.Verdict.{Verdict}
-use Rattle.lines.specs.declared.record.Verdict.TheVariants.{Sound, Refused}
 use Rattle.lines.specs.declared.record.VmdkAccessType.{VmdkAccessType}
 use Rattle.descriptor.specs.Read.{set_of, sizes_from, checked, read_lines, read_of}
 use Rattle.probing.specs.Probe.{probe_key, probe_line as probe_one, probe_lines, probe_of}
-use Rattle.tables.specs.Build.{rows_from, build_of}
-use Rattle.tables.specs.declared.table.Built.{Built}
+use Rattle.tables.specs.Build.{Built, rows_from, build_of}
 use Rattle.tables.specs.declared.table.Source.TheVariants.{Flat}
 use Rattle.tables.specs.declared.table.Row.{Row}
 use Rattle.tables.specs.declared.table.Table.{Table}
@@ -55,16 +53,16 @@ empty_computes = refl
 
 -- ---- by the verdicts
 module _ (d : List ℕ) where
-  read_refused : (x : Refusal) → (read_of d).verdict ≡ Refused x → OnlyRefused d x
+  read_refused : (x : Refusal) → (read_of d).verdict ≡ Err x → OnlyRefused d x
   unfolding report_of map_line_of walk_lines_of open_of
   read_refused x e = record { report = rw e; map = λ o l. rw e; walk = λ o l p. rw e }
 
-  module _ (s : (read_of d).verdict ≡ Sound) where
-    build_refused : (x : Refusal) → (build_of (read_of d).descriptor).verdict ≡ Refused x → OnlyRefused d x
+  module _ (s : (read_of d).verdict ≡ (Ok tt)) where
+    build_refused : (x : Refusal) → (build_of (read_of d).descriptor).verdict ≡ Err x → OnlyRefused d x
     unfolding report_of map_line_of walk_lines_of open_of
     build_refused x e = record { report = rw (s, e); map = λ o l. rw (s, e); walk = λ o l p. rw (s, e) }
 
-    pub built_written : (t : Table) → build_of (read_of d).descriptor ≡ record { verdict = Sound; table = t } → OfTable d t
+    pub built_written : (t : Table) → build_of (read_of d).descriptor ≡ record { verdict = (Ok tt); table = t } → OfTable d t
     unfolding report_of map_line_of walk_lines_of open_of
     built_written t e = record { report = rw (s, e); map = λ o l. rw (s, e); walk = λ o l p. rw (s, e) }
 
@@ -76,13 +74,13 @@ only_refused d x (inr e) = build_refused d e.0 x e.1
 pub refused_or_opens : (d : List ℕ) → ((x : Refusal) × RefusedBy d x) ⊎ ((t : Table) × Opens d t)
 refused_or_opens d = by_read (read_of d).verdict refl
   where
-    by_build : (read_of d).verdict ≡ Sound → (b : Built) → build_of (read_of d).descriptor ≡ b → (v : Verdict) → b.verdict ≡ v → ((x : Refusal) × RefusedBy d x) ⊎ ((t : Table) × Opens d t)
-    by_build s b q Sound e = inr (b.table, (s, q ∙ rw (← e)))
-    by_build s b q (Refused x) e = inl (x, inr (s, ap (λ (b : Built). b.verdict) q ∙ e))
+    by_build : (read_of d).verdict ≡ (Ok tt) → (b : Built) → build_of (read_of d).descriptor ≡ b → (v : Verdict) → b.verdict ≡ v → ((x : Refusal) × RefusedBy d x) ⊎ ((t : Table) × Opens d t)
+    by_build s b q (Ok tt) e = inr (b.table, (s, q ∙ rw (← e)))
+    by_build s b q (Err x) e = inl (x, inr (s, ap (λ (b : Built). b.verdict) q ∙ e))
 
     by_read : (v : Verdict) → (read_of d).verdict ≡ v → ((x : Refusal) × RefusedBy d x) ⊎ ((t : Table) × Opens d t)
-    by_read Sound e = by_build e (build_of (read_of d).descriptor) refl (build_of (read_of d).descriptor).verdict refl
-    by_read (Refused x) e = inl (x, inl e)
+    by_read (Ok tt) e = by_build e (build_of (read_of d).descriptor) refl (build_of (read_of d).descriptor).verdict refl
+    by_read (Err x) e = inl (x, inl e)
 
 -- ---- a flat row
 pub flat_written : (d : List ℕ) (i : ℕ) (r : Row) (a : VmdkAccessType) (start : Bytes) (name : Text) → r.source ≡ Flat a start name → row_line d i r ≡ each_spaced (decimal_of i ∷ decimal_of r.start.0 ∷ decimal_of r.end.0 ∷ ascii "FLAT" ∷ access_word a ∷ decimal_of start.0 ∷ []) ++ (name_in d name ++ (0x0A ∷ []))

@@ -1,6 +1,7 @@
 -- A piece that is not the last ends where its row does, and rows before that end no later: so the next piece is by a later row.
 -- That holds on any table whose rows' ends never fall, wherever and why the walk stops.
 -- Assumes nothing.
+use Rattle.std.specs.Prelude.{Err, Ok, Result}
 use Prim.Native.Nat.{ℕ, zero, suc, ◌+◌, ◌-◌, ◌<◌, ◌≤◌, min}
 use native.Mathlib.Omega.{arith}
 use mathlib.Core.List.{List, [], ◌∷◌}
@@ -14,8 +15,9 @@ use Rattle.lines.specs.declared.record.Record.{Record}
 use Rattle.lines.specs.declared.record.VmdkParsedExtent.{VmdkParsedExtent}
 use Rattle.tables.specs.declared.table.Table.{Table}
 use Rattle.tables.specs.declared.table.Piece.{Piece}
+use Rattle.tables.specs.declared.table.ShallowMapping.TheVariants.{Eof, Zero, Raw}
 use Rattle.tables.specs.declared.table.ShallowMapping.{ShallowMapping}
-use Rattle.tables.specs.declared.table.ShallowMapping.TheVariants.{Eof, Zero, Raw, Refused}
+use Rattle.lines.specs.declared.record.Fault.{Fault}
 use Rattle.maps.specs.Map.{map_of}
 use Rattle.maps.specs.Place.{bytes_in, size_of}
 use Rattle.maps.specs.Walk.{Walk, zero_piece, raw_piece, step, walk_from, walk_of}
@@ -53,14 +55,14 @@ module _ (t : Table) (up : EndsRise t) (size : t.size.0 ≤ largest) (few : t.co
     later : (k run : ℕ) → Cut t pos left k run → i ≤ k
     later k run c = by_test (leb i k) (leb-true i k) (λ e. absurd (omega (arith, c.1, low k (leb-false i k e))))
 
-    step_rises : (m : ShallowMapping) (run n : ℕ) (w : Walk) → Gives t pos left m run → ((k : ℕ) → Cut t pos left k run → Rising t (suc k) w.pieces) → Rising t i (step pos m run n w).pieces
-    step_rises Eof run n w g f = (tt, tt, tt)
-    step_rises (Refused number) run n w g f = (tt, tt, tt)
-    step_rises (Zero k) run n w g f =
+    step_rises : (m : Result ShallowMapping Fault) (run n : ℕ) (w : Walk) → Gives t pos left m run → ((k : ℕ) → Cut t pos left k run → Rising t (suc k) w.pieces) → Rising t i (step pos m run n w).pieces
+    step_rises (Ok Eof) run n w g f = (tt, tt, tt)
+    step_rises (Err number) run n w g f = (tt, tt, tt)
+    step_rises (Ok (Zero k)) run n w g f =
         let r = f k g in
         let p : Numbered (zero_piece pos run k) = record { start = omega arith; run = omega (arith, g.2); row = omega (arith, g.0); offset = omega arith } in
         ((later k run g, r.0), (g.0, r.1), (p, r.2))
-    step_rises (Raw k at wr) run n w g f =
+    step_rises (Ok (Raw k at wr)) run n w g f =
         let c = g.0 in
         let r = f k c in
         let p : Numbered (raw_piece pos run k at wr) = record { start = omega arith; run = omega (arith, c.2); row = omega (arith, c.0); offset = g.1 } in
@@ -86,11 +88,11 @@ module _ (t : Table) (up : EndsRise t) (size : t.size.0 ≤ largest) (few : t.co
       (λ a b. walk_rises room (pos + run) (left - run) (suc k) (λ j h. ended pos left k run j cut a b h)))))
 
   -- why and where it stops
-  step_stops : (pos left : ℕ) → pos < t.size.0 → (m : ShallowMapping) (run n : ℕ) (w : Walk) → Gives t pos left m run → (pos + run ≤ largest → StopsWell w) → StopsWell (step pos m run n w)
-  step_stops pos left l Eof run n w g f = (tt, omega arith)
-  step_stops pos left l (Refused number) run n w g f = (omega arith, omega arith)
-  step_stops pos left l (Zero k) run n w g f = f (omega (arith, g.2))
-  step_stops pos left l (Raw k at wr) run n w g f = f (omega (arith, g.0.2))
+  step_stops : (pos left : ℕ) → pos < t.size.0 → (m : Result ShallowMapping Fault) (run n : ℕ) (w : Walk) → Gives t pos left m run → (pos + run ≤ largest → StopsWell w) → StopsWell (step pos m run n w)
+  step_stops pos left l (Ok Eof) run n w g f = (tt, omega arith)
+  step_stops pos left l (Err number) run n w g f = (omega arith, omega arith)
+  step_stops pos left l (Ok (Zero k)) run n w g f = f (omega (arith, g.2))
+  step_stops pos left l (Ok (Raw k at wr)) run n w g f = f (omega (arith, g.0.2))
 
   pub walk_stops : (room pos left : ℕ) → pos ≤ largest → StopsWell (walk_from room t pos left)
   walk_stops zero pos left h =

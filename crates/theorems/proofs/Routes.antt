@@ -1,6 +1,7 @@
 -- A route is a walk told extent by extent: it passes the extents that end before its position, and then each extent gives a piece or stops it.
 -- The walk over a table of extents takes such a route, because mapping tells the extent that holds the position.
 -- Assumes nothing.
+use Rattle.std.specs.Prelude.{Err, Ok, Result}
 use Prim.Native.Nat.{ℕ, zero, suc, ◌+◌, ◌-◌, ◌*◌, ◌<◌, ◌≤◌, min}
 use native.Mathlib.Omega.{arith}
 use native.Mathlib.Nat.{add_assoc}
@@ -20,9 +21,11 @@ use Rattle.lines.specs.declared.record.VmdkParsedStorage.TheVariants.{NoAccess, 
 use Rattle.tables.specs.declared.table.Table.{Table}
 use Rattle.tables.specs.declared.table.Mapping.{Mapping}
 use Rattle.tables.specs.declared.table.Piece.{Piece}
-use Rattle.tables.specs.declared.table.ShallowMapping.TheVariants.{Zero as Zeroed, Raw, Refused}
+use Rattle.tables.specs.declared.table.ShallowMapping.TheVariants.{Zero as Zeroed, Raw}
+use Rattle.tables.specs.declared.table.Stop.TheVariants.{Done, More}
 use Rattle.tables.specs.declared.table.Stop.{Stop}
-use Rattle.tables.specs.declared.table.Stop.TheVariants.{Done, More, Refused as Stopped}
+use Rattle.lines.specs.declared.record.Fault.{Fault}
+use Rattle.lines.specs.declared.record.Fault.TheVariants.{Inaccessible}
 use Rattle.maps.specs.Map.{writable, map_of}
 use Rattle.maps.specs.Place.{within, bytes_in, size_of, place_from, place_of, Reaches, Reachable}
 use Rattle.maps.specs.Walk.{Walk, ends, then, zero_piece, raw_piece, step, walk_from}
@@ -40,12 +43,12 @@ pub record PieceOf (x : VmdkParsedExtent) (i begin pos upto : ℕ) (p : Piece) :
   pub zero_piece_lem : ZeroPlain p
 
 -- over extents numbered from i on, which begin at a place, from a position up to a place: the pieces, the stop and the position reached
-pub data Route : ℕ → ℕ → List VmdkParsedExtent → ℕ → ℕ → List Piece → Stop → ℕ → Type 0 where
-  over : {begin i pos hi : ℕ} → begin ≤ pos → Route begin i [] pos hi [] Done pos
-  done : {begin i pos hi : ℕ} {xs : List VmdkParsedExtent} → hi ≤ pos → Route begin i xs pos hi [] Done pos
-  pass : {begin i pos hi q : ℕ} {x : VmdkParsedExtent} {xs : List VmdkParsedExtent} {ps : List Piece} {s : Stop} → begin + bytes_in x ≤ pos → Route (begin + bytes_in x) (suc i) xs pos hi ps s q → Route begin i (x ∷ xs) pos hi ps s q
-  shut : {begin i pos hi : ℕ} {x : VmdkParsedExtent} {xs : List VmdkParsedExtent} → begin ≤ pos → pos < begin + bytes_in x → pos < hi → x.storage ≡ NoAccess → Route begin i (x ∷ xs) pos hi [] (Stopped 21) pos
-  piece : {begin i pos hi q : ℕ} {x : VmdkParsedExtent} {xs : List VmdkParsedExtent} {p : Piece} {ps : List Piece} {s : Stop} → begin ≤ pos → pos < begin + bytes_in x → pos < hi → PieceOf x i begin pos (min hi (begin + bytes_in x)) p → Route (begin + bytes_in x) (suc i) xs (min hi (begin + bytes_in x)) hi ps s q → Route begin i (x ∷ xs) pos hi (p ∷ ps) s q
+pub data Route : ℕ → ℕ → List VmdkParsedExtent → ℕ → ℕ → List Piece → Result Stop Fault → ℕ → Type 0 where
+  over : {begin i pos hi : ℕ} → begin ≤ pos → Route begin i [] pos hi [] (Ok Done) pos
+  done : {begin i pos hi : ℕ} {xs : List VmdkParsedExtent} → hi ≤ pos → Route begin i xs pos hi [] (Ok Done) pos
+  pass : {begin i pos hi q : ℕ} {x : VmdkParsedExtent} {xs : List VmdkParsedExtent} {ps : List Piece} {s : Result Stop Fault} → begin + bytes_in x ≤ pos → Route (begin + bytes_in x) (suc i) xs pos hi ps s q → Route begin i (x ∷ xs) pos hi ps s q
+  shut : {begin i pos hi : ℕ} {x : VmdkParsedExtent} {xs : List VmdkParsedExtent} → begin ≤ pos → pos < begin + bytes_in x → pos < hi → x.storage ≡ NoAccess → Route begin i (x ∷ xs) pos hi [] (Err Inaccessible) pos
+  piece : {begin i pos hi q : ℕ} {x : VmdkParsedExtent} {xs : List VmdkParsedExtent} {p : Piece} {ps : List Piece} {s : Result Stop Fault} → begin ≤ pos → pos < begin + bytes_in x → pos < hi → PieceOf x i begin pos (min hi (begin + bytes_in x)) p → Route (begin + bytes_in x) (suc i) xs (min hi (begin + bytes_in x)) hi ps s q → Route begin i (x ∷ xs) pos hi (p ∷ ps) s q
 
 -- at a byte of the first extent, and at one past it
 module _ (i : ℕ) (x : VmdkParsedExtent) (xs : List VmdkParsedExtent) (begin at : ℕ) where
@@ -76,25 +79,25 @@ module _ (i : ℕ) (x : VmdkParsedExtent) (xs : List VmdkParsedExtent) (begin at
 
 -- the walk before each step
 module _ (t : Table) (pos left : ℕ) where
-  pub walk_done : (room : ℕ) → left ≡ 0 → walk_from room t pos left ≡ ends Done pos 0
+  pub walk_done : (room : ℕ) → left ≡ 0 → walk_from room t pos left ≡ ends (Ok Done) pos 0
   unfolding walk_from
   walk_done zero e = rw (eq-eqb left 0 e)
   walk_done (suc room) e = rw (eq-eqb left 0 e)
 
-  pub walk_over : (room : ℕ) → t.size.0 ≤ pos → walk_from room t pos left ≡ ends Done pos 0
+  pub walk_over : (room : ℕ) → t.size.0 ≤ pos → walk_from room t pos left ≡ ends (Ok Done) pos 0
   unfolding walk_from
-  walk_over zero h = rw (le-leb _ _ h) (pick_same (eqb left 0) (ends Done pos 0))
-  walk_over (suc room) h = rw (le-leb _ _ h) (pick_same (eqb left 0) (ends Done pos 0))
+  walk_over zero h = rw (le-leb _ _ h) (pick_same (eqb left 0) (ends (Ok Done) pos 0))
+  walk_over (suc room) h = rw (le-leb _ _ h) (pick_same (eqb left 0) (ends (Ok Done) pos 0))
 
   -- the walk is over, whatever the room, or it goes on
-  pub over_or_on : {C : Type 0} → (((room : ℕ) → walk_from room t pos left ≡ ends Done pos 0) → C) → (0 < left → pos < t.size.0 → C) → C
+  pub over_or_on : {C : Type 0} → (((room : ℕ) → walk_from room t pos left ≡ ends (Ok Done) pos 0) → C) → (0 < left → pos < t.size.0 → C) → C
   over_or_on f g =
       by_test (eqb left 0) (λ e. f (λ room. walk_done room (eqb-true _ _ e)))
       (λ e. let n = eqb-false left 0 e in
       by_test (leb t.size.0 pos) (λ l. f (λ room. walk_over room (leb-true _ _ l))) (λ l. g (omega arith) (leb-false _ _ l)))
 
   module _ (some_left : 0 < left) (before-end : pos < t.size.0) where
-    pub walk_full : walk_from 0 t pos left ≡ ends More pos 0
+    pub walk_full : walk_from 0 t pos left ≡ ends (Ok More) pos 0
     unfolding walk_from
     walk_full = rw (ne_eqb left 0 (omega arith), lt-leb _ _ before-end)
 
@@ -182,18 +185,18 @@ module _ (all : List VmdkParsedExtent) (t : Table) (maps : (o asked : ℕ) → M
 
     step_here : (st : VmdkParsedStorage) → x.storage ≡ st → Reaches x st → Takes (begin + bytes_in x) (suc i) xs (pos + run_here) (left - run_here) onward → Takes begin i (x ∷ xs) pos left (walk_from (suc room) t pos left)
     step_here NoAccess e f r =
-        let m : (map_of t pos left).mapping ≡ Refused 21 = shown_here ∙ rw e in
-        let w : walk_from (suc room) t pos left ≡ ends (Stopped 21) pos (map_of t pos left).looked = walk_step t pos left c inside room ∙ rw m in
+        let m : (map_of t pos left).mapping ≡ Err Inaccessible = shown_here ∙ rw e in
+        let w : walk_from (suc room) t pos left ≡ ends (Err Inaccessible) pos (map_of t pos left).looked = walk_step t pos left c inside room ∙ rw m in
         let g : pos < pos + left = omega arith in
         subst (Takes begin i (x ∷ xs) pos left) (sym w) (shut a b g e)
     step_here (Zero acc) e f r =
-        let m : (map_of t pos left).mapping ≡ Zeroed i = shown_here ∙ rw e in
+        let m : (map_of t pos left).mapping ≡ Ok (Zeroed i) = shown_here ∙ rw e in
         let n : (map_of t pos left).run ≡ run_here = ran_here ∙ rw e in
         let w : walk_from (suc room) t pos left ≡ then (zero_piece pos run_here i) (map_of t pos left).looked onward = walk_step t pos left c inside room ∙ rw (m, n) in
         subst (Takes begin i (x ∷ xs) pos left) (sym w) (takes_piece begin i pos left x xs a b c (zero_piece pos run_here i) (map_of t pos left).looked onward (zero_of begin i pos left x xs a b c acc e) r)
     step_here (Flat acc name at) e f r =
         let l : at.0 * sector_size + (pos - begin) ≤ largest = omega arith in
-        let m : (map_of t pos left).mapping ≡ Raw i (at.0 * sector_size + (pos - begin)) (writable acc) = shown_here ∙ rw (e, le-leb _ _ l) in
+        let m : (map_of t pos left).mapping ≡ Ok (Raw i (at.0 * sector_size + (pos - begin)) (writable acc)) = shown_here ∙ rw (e, le-leb _ _ l) in
         let n : (map_of t pos left).run ≡ run_here = ran_here ∙ rw (e, le-leb _ _ l) in
         let p = raw_piece pos run_here i (at.0 * sector_size + (pos - begin)) (writable acc) in
         let w : walk_from (suc room) t pos left ≡ then p (map_of t pos left).looked onward = walk_step t pos left c inside room ∙ rw (m, n) in

@@ -1,6 +1,7 @@
 -- A refusal's second number is a line's or 0, so it is at most the number of lines.
 -- By recursion on the lines for reading, and on the extents for building.
 -- Assumes nothing.
+use Rattle.std.specs.Prelude.{Err, None, Ok, Option, Result, Some}
 use Prim.Native.Nat.{ℕ, suc, ◌+◌, ◌≤◌}
 use native.Mathlib.Omega.{arith}
 use mathlib.Core.List.{List, [], ◌∷◌, ◌++◌}
@@ -11,24 +12,23 @@ use Rattle.text.specs.Ranges.{within}
 use Rattle.text.specs.Find.{begins}
 use Rattle.text.specs.Lines.{lines_of, count}
 use Rattle.text.specs.Sector.{bytes_of, largest}
-use Rattle.text.specs.declared.sector.ByteCount.{ByteCount}
-use Rattle.text.specs.declared.sector.ByteCount.TheVariants.{Count, TooLarge}
 use Rattle.text.proofs.Flat.{by_test, pick_all}
 use Rattle.text.proofs.Lines.{lines_count}
-use Rattle.lines.specs.Record.{most, most_bytes, at_line, no_desc, read_in, refusal}
+use Rattle.lines.specs.Record.{most, most_bytes, at_line, no_desc, read_in, refusal, Verdict}
 use Rattle.lines.specs.Line.{line_of}
-use Rattle.lines.specs.declared.line.Said.{Said}
-use Rattle.lines.specs.declared.line.Said.TheVariants.{Nothing, Extent, Set, Refused}
+use Rattle.lines.specs.declared.line.Said.TheVariants.{Nothing, Extent, Set}
 use Rattle.lines.specs.declared.record.Record.{Record}
-use Rattle.lines.specs.declared.record.Verdict.{Verdict}
-use Rattle.lines.specs.declared.record.Verdict.TheVariants.{Sound, Refused as Stopped}
 use Rattle.lines.specs.declared.record.VmdkDesc.{VmdkDesc}
 use Rattle.lines.specs.declared.record.ReadExtent.{ReadExtent}
 use Rattle.lines.specs.declared.record.VmdkParsedStorage.{VmdkParsedStorage}
 use Rattle.lines.specs.declared.record.VmdkParsedStorage.TheVariants.{NoAccess, Zero, Flat}
-use Rattle.descriptor.specs.Read.{least_bytes, sparse, summed, set_of, sizes_from, checked, by_line, read_lines, read_of}
-use Rattle.descriptor.specs.declared.read.Read.{Read}
+use Rattle.descriptor.specs.Read.{Read, least_bytes, sparse, summed, set_of, sizes_from, checked, by_line, read_lines, read_of}
 use Rattle.tables.specs.declared.table.Source.{Source}
+use Rattle.lines.specs.declared.line.Said.{Said}
+use Rattle.text.specs.declared.sector.Bytes.{Bytes}
+use Rattle.lines.specs.declared.record.Fault.{Fault}
+use Rattle.lines.specs.declared.record.Fault.TheVariants.{SizeTooLarge, SumTooLarge, FileStartTooLarge}
+use Rattle.lines.specs.Fault.{refusal_number}
 use Rattle.tables.specs.Build.{Rows, rows, refused, in_bytes, in_source, before, rows_from, built, build_of}
 use Rattle.theorems.specs.Statements.{sayings_of, read_from}
 use Rattle.theorems.proofs.RefusalNumbers.{line_number}
@@ -37,8 +37,8 @@ use Rattle.theorems.proofs.Verdicts.{accepted_read}
 
 -- what is refused is refused with a number up to 24, and a second number up to m
 abbrev pub AtMost : ℕ → Verdict → Type 0
-AtMost m Sound = Unit {0}
-AtMost m (Stopped r) = (r.number ≤ 24) × (r.second ≤ m)
+AtMost m (Ok tt) = Unit {0}
+AtMost m (Err r) = (refusal_number r.fault ≤ 24) × (r.second ≤ m)
 
 -- a text has no more bytes 0A than bytes
 count_short : (l : List ℕ) → count 0x0A l ≤ length l
@@ -57,18 +57,18 @@ module _ (m : ℕ) where
   lined_more [] x h l = (l, tt)
   lined_more (y ∷ xs) x h l = (h.0, lined_more xs x h.1 l)
 
-  lined_from : (k : ℕ) (ss : List Said) → k + length ss ≤ m → Lined (read_from k ss)
+  lined_from : (k : ℕ) (ss : List (Result Said Fault)) → k + length ss ≤ m → Lined (read_from k ss)
   unfolding read_from
   lined_from k [] h = tt
-  lined_from k (Extent x ∷ ss) h = (omega arith, lined_from (suc k) ss (omega arith))
-  lined_from k (Nothing ∷ ss) h = lined_from (suc k) ss (omega arith)
-  lined_from k (Set v ∷ ss) h = lined_from (suc k) ss (omega arith)
-  lined_from k (Refused n ∷ ss) h = lined_from (suc k) ss (omega arith)
+  lined_from k (Ok (Extent x) ∷ ss) h = (omega arith, lined_from (suc k) ss (omega arith))
+  lined_from k ((Ok Nothing) ∷ ss) h = lined_from (suc k) ss (omega arith)
+  lined_from k (Ok (Set v) ∷ ss) h = lined_from (suc k) ss (omega arith)
+  lined_from k (Err n ∷ ss) h = lined_from (suc k) ss (omega arith)
 
   -- ---- reading
-  sum_most : (k sum : ℕ) (b : ByteCount) (go : ℕ → Verdict) → k ≤ m → ((s : ℕ) → AtMost m (go s)) → AtMost m (summed k sum b go)
-  sum_most k sum (Count b) go h g = pick_all (AtMost m) (leb (sum + b.0) largest) (go (sum + b.0)) (refusal 19 k) (g (sum + b.0)) (omega arith, h)
-  sum_most k sum TooLarge go h g = (omega arith, h)
+  sum_most : (k sum : ℕ) (b : Option Bytes) (go : ℕ → Verdict) → k ≤ m → ((s : ℕ) → AtMost m (go s)) → AtMost m (summed k sum b go)
+  sum_most k sum (Some b) go h g = pick_all (AtMost m) (leb (sum + b.0) largest) (go (sum + b.0)) (refusal SumTooLarge k) (g (sum + b.0)) (omega arith, h)
+  sum_most k sum None go h g = (omega arith, h)
 
   sizes_most : (sum : ℕ) (xs : List ReadExtent) → Lined xs → AtMost m (sizes_from sum xs)
   unfolding sizes_from
@@ -82,11 +82,11 @@ module _ (m : ℕ) where
       by_test (within 1 3 d.version) (λ e. rw (e, from_answer (sizes_from 0 xs) d xs) (sizes_most 0 xs h))
       (λ e. rw e (omega arith, omega arith))
 
-  said_most : (k p : ℕ) (l : List ℕ) (s : Said) → line_of p l ≡ s → (d : VmdkDesc) (xs : List ReadExtent) (go : VmdkDesc → List ReadExtent → Read) → k ≤ m → Lined xs → ((d : VmdkDesc) (xs : List ReadExtent) → Lined xs → AtMost m (go d xs).verdict) → AtMost m (by_line k s d xs go).verdict
-  said_most k p l Nothing e d xs go h f g = g d xs f
-  said_most k p l (Set v) e d xs go h f g = g (set_of d v) xs f
-  said_most k p l (Refused n) e d xs go h f g = (omega (arith, line_number p l n e), h)
-  said_most k p l (Extent x) e d xs go h f g =
+  said_most : (k p : ℕ) (l : List ℕ) (s : Result Said Fault) → line_of p l ≡ s → (d : VmdkDesc) (xs : List ReadExtent) (go : VmdkDesc → List ReadExtent → Read) → k ≤ m → Lined xs → ((d : VmdkDesc) (xs : List ReadExtent) → Lined xs → AtMost m (go d xs).verdict) → AtMost m (by_line k s d xs go).verdict
+  said_most k p l (Ok Nothing) e d xs go h f g = g d xs f
+  said_most k p l (Ok (Set v)) e d xs go h f g = g (set_of d v) xs f
+  said_most k p l (Err n) e d xs go h f g = (omega (arith, line_number p l n e), h)
+  said_most k p l (Ok (Extent x)) e d xs go h f g =
       by_test (ltb (length xs) most)
       (λ q. rw q (g d (xs ++ (at_line k x ∷ [])) (lined_more xs (at_line k x) f h)))
       (λ q. rw q (omega arith, h))
@@ -111,17 +111,17 @@ module _ (m : ℕ) where
         (λ e₃. rw (e, e₂, e₃) (lines_most 1 0 no_desc [] (lines_of d) few_lines tt))))
 
     -- and the extents that are read have such lines
-    pub read_lined : (read_of d).verdict ≡ Sound → Lined (read_in (read_of d).descriptor)
+    pub read_lined : (read_of d).verdict ≡ (Ok tt) → Lined (read_in (read_of d).descriptor)
     read_lined e = rw (accepted_read d e) (lined_from 1 (sayings_of d) (omega (arith, few_lines, sayings_length 0 (lines_of d))))
 
   -- ---- building
   abbrev RowsMost : Rows → Type 0
   RowsMost (rows rs size) = Unit {0}
-  RowsMost (refused n k) = (n ≤ 24) × (k ≤ m)
+  RowsMost (refused n k) = (refusal_number n ≤ 24) × (k ≤ m)
 
-  bytes_most : (b : ByteCount) (else : Rows) (go : ℕ → Rows) → RowsMost else → ((s : ℕ) → RowsMost (go s)) → RowsMost (in_bytes b else go)
-  bytes_most (Count b) else go h g = g b.0
-  bytes_most TooLarge else go h g = h
+  bytes_most : (b : Option Bytes) (else : Rows) (go : ℕ → Rows) → RowsMost else → ((s : ℕ) → RowsMost (go s)) → RowsMost (in_bytes b else go)
+  bytes_most (Some b) else go h g = g b.0
+  bytes_most None else go h g = h
 
   source_most : (st : VmdkParsedStorage) (else : Rows) (go : Source → Rows) → RowsMost else → ((s : Source) → RowsMost (go s)) → RowsMost (in_source st else go)
   source_most NoAccess else go h g = g _
@@ -136,9 +136,9 @@ module _ (m : ℕ) where
   unfolding rows_from
   rows_most start [] h = tt
   rows_most start (x ∷ xs) h =
-      bytes_most (bytes_of x.extent.sectors) (refused 18 x.line) _ (omega arith, h.0)
-      (λ size. pick_all RowsMost (leb (start + size) largest) _ (refused 19 x.line)
-      (source_most x.extent.storage (refused 20 x.line) _ (omega arith, h.0) (λ source. before_most _ (rows_from (start + size) xs) (rows_most (start + size) xs h.1)))
+      bytes_most (bytes_of x.extent.sectors) (refused SizeTooLarge x.line) _ (omega arith, h.0)
+      (λ size. pick_all RowsMost (leb (start + size) largest) _ (refused SumTooLarge x.line)
+      (source_most x.extent.storage (refused FileStartTooLarge x.line) _ (omega arith, h.0) (λ source. before_most _ (rows_from (start + size) xs) (rows_most (start + size) xs h.1)))
       (omega arith, h.0))
 
   built_most : (r : Rows) → RowsMost r → AtMost m (built r).verdict

@@ -1,5 +1,6 @@
 -- Small inputs that are answered without a refusal, and what cannot be said of them: what the wrong answers of RuledOut.antt come to.
 -- Each answer is computed, or follows from a theorem of the page.
+use Rattle.std.specs.Prelude.{Err, Ok, Result}
 use Prim.Native.Nat.{ℕ, suc, ◌+◌, ◌-◌, ◌*◌, ◌^◌, ◌≤◌, ◌<◌}
 use native.Mathlib.Omega.{arith}
 use mathlib.Core.List.{List, [], ◌∷◌, ◌++◌, map}
@@ -23,10 +24,8 @@ use Rattle.text.specs.Sector.{sectors_of, bytes_of}
 use Rattle.text.specs.Text.{text_from, text_at, sound, drop_blanks, last_end, trim_text, trim_of, trimmed, run_text, run_of, word_of}
 use Rattle.lines.specs.Line.{version_of, value_of, key_line, access_word as word_of_access, access_line, text_line, line_of}
 use Rattle.lines.specs.Record.{at_line, no_read, most, most_bytes, no_text, no_desc, no_record, record_of, filled, read_in, bare, counted, refusal}
-use Rattle.lines.specs.declared.line.Said.{Said}
-use Rattle.lines.specs.declared.line.Said.TheVariants.{Nothing, Extent, Set, Refused as Said-as-Refused}
+use Rattle.lines.specs.declared.line.Said.TheVariants.{Nothing, Extent, Set}
 use Rattle.lines.specs.declared.record.Record.{Record}
-use Rattle.lines.specs.declared.record.Verdict.TheVariants.{Sound}
 use Rattle.lines.specs.declared.record.VmdkAccessType.TheVariants.{RW}
 use Rattle.lines.specs.declared.record.ReadExtent.{ReadExtent}
 use Rattle.lines.specs.declared.record.VmdkParsedExtent.{VmdkParsedExtent}
@@ -36,7 +35,7 @@ use Rattle.theorems.specs.LentAgain.{fresh, Stored}
 use Rattle.descriptor.specs.Read.{least_bytes, set_of, sizes_from, checked, read_lines, read_of}
 use Rattle.tables.specs.Build.{no_table, rows_from, build_of}
 use Rattle.tables.specs.declared.table.Row.{Row}
-use Rattle.tables.specs.declared.table.ShallowMapping.TheVariants.{Zero as ZeroAt, Raw, Refused as Mapped-as-Refused}
+use Rattle.tables.specs.declared.table.ShallowMapping.TheVariants.{Zero as ZeroAt, Raw}
 use Rattle.tables.specs.declared.table.Source.TheVariants.{Flat as File}
 use Rattle.lines.specs.Alike.{AlikeRecords}
 use Rattle.maps.specs.Alike.{AlikeTables}
@@ -52,6 +51,10 @@ use Rattle.walk_lines.specs.Walk.{piece_line, stop_text, stop_line, walk_lines}
 use Rattle.report.specs.Command.{answer_of}
 use Rattle.report.specs.Room.{room}
 use Rattle.report.specs.declared.command.Command.TheVariants.{Report}
+use Rattle.lines.specs.declared.line.Said.{Said}
+use Rattle.lines.specs.declared.record.Fault.{Fault}
+use Rattle.lines.specs.Fault.{refusal_number}
+use Rattle.lines.specs.declared.record.Fault.TheVariants.{OtherVersion, TooShort, OtherKey, SizeTooLarge, SumTooLarge, FileStartTooLarge, CountTooLarge}
 use Rattle.theorems.specs.Cases.{lines}
 use Rattle.theorems.specs.LineWords.{cid}
 use Rattle.theorems.specs.Values.{Held, number, text, LastSaid}
@@ -68,7 +71,7 @@ use Rattle.theorems.proofs.LineRows.{said_count, row_source}
 use Rattle.theorems.proofs.Theorems.{rows_follow, alike_builds, row_from_line, short_enough, report_empty, accepted_when, sound_builds, joint_places, first_refused, reading_leaves}
 
 -- ---- what is read, built, mapped and walked without a refusal
-pub read_sound : (n k : ℕ) → (read_of joined).verdict ≡ refusal n k → ⊥
+pub read_sound : (n : Fault) (k : ℕ) → (read_of joined).verdict ≡ refusal n k → ⊥
 read_sound n k e = let s = joint_places.0 in let z : ◌≡◌ {A = ℕ} 0 1 = cc in absurd (omega arith)
 
 -- one sector of zeros
@@ -85,21 +88,21 @@ many = record { desc = no_desc; count = suc most; extents = [] }
 abbrev pub crowd : Table
 crowd = record { size = record { 0 = 0 }; count = suc most; rows = [] }
 
-pub small_sound : (build_of small).verdict ≡ Sound
+pub small_sound : (build_of small).verdict ≡ (Ok tt)
 unfolding bytes_of filled read_in bare rows_from build_of
 small_sound = refl
 
 pub small_builds : Builds small disk
 small_builds = sound_builds small small_sound
 
-pub build_sound : (n k : ℕ) → (build_of small).verdict ≡ refusal n k → ⊥
+pub build_sound : (n : Fault) (k : ℕ) → (build_of small).verdict ≡ refusal n k → ⊥
 build_sound n k e = let s = small_sound in let z : ◌≡◌ {A = ℕ} 0 1 = cc in absurd (omega arith)
 
-pub map_zero : (map_of disk 0 1).mapping ≡ ZeroAt 0
+pub map_zero : (map_of disk 0 1).mapping ≡ Ok (ZeroAt 0)
 unfolding bytes_of filled read_in bare rows_from build_of halve sourced in_row search_of map_of
 map_zero = refl
 
-pub map_sound : (n : ℕ) → (map_of disk 0 1).mapping ≡ Mapped-as-Refused n → ⊥
+pub map_sound : (n : Fault) → (map_of disk 0 1).mapping ≡ Err n → ⊥
 map_sound n e = let s = map_zero in let z : ◌≡◌ {A = ℕ} 0 1 = cc in absurd (omega arith)
 
 -- the empty line, as the first of the empty descriptor
@@ -107,7 +110,7 @@ pub first_line : LineAt [] [] [] 0 1
 unfolding lines_of place_after
 first_line = record { after = []; lines = refl; place = refl; number = refl }
 
-pub empty_says : line_of 0 [] ≡ Nothing
+pub empty_says : line_of 0 [] ≡ (Ok Nothing)
 unfolding line_of text_line trim_of trim_text text_at text_from sound drop_blanks last_end
 empty_says = refl
 
@@ -115,11 +118,11 @@ pub small_rows : disk.count ≡ 1
 unfolding bytes_of filled read_in bare rows_from build_of
 small_rows = refl
 
-pub not_17 : ((18 ≤ 17) × (17 ≤ 20)) ⊎ (◌≡◌ {A = ℕ} 17 23) → ⊥
+pub not_17 : ((18 ≤ 17) × (17 ≤ 20)) ⊎ (OtherVersion ≡ CountTooLarge) → ⊥
 not_17 (inl h) = absurd (omega (arith, h.0))
-not_17 (inr h) = absurd (omega (arith, h))
+not_17 (inr h) = absurd (omega (arith, ap refusal_number h))
 
-pub empty_refused : (read_of []).verdict ≡ refusal 1 0
+pub empty_refused : (read_of []).verdict ≡ refusal TooShort 0
 unfolding read_of
 empty_refused = refl
 
@@ -160,7 +163,7 @@ abbrev pub seen_place : Seen → NamedPlace
 seen_place (at q) = q
 seen_place (refused n) = past
 
-pub not_seen : seen_by joined joined_table (Raw 2 1024 true) ≡ due_at (place_in joined 0) → ⊥
+pub not_seen : seen_by joined joined_table (Ok (Raw 2 1024 true)) ≡ due_at (place_in joined 0) → ⊥
 not_seen e =
     let w : at (file (name_at joined joined_table 2) 1024 true) ≡ at (file (ascii "reel a.vmdk") 1024 true) = rw first_byte at e in
     wrong_file (first_byte ∙ sym (ap seen_place w))
@@ -206,7 +209,7 @@ pub no_line : (b : Bool) (after : List ℕ) → [] ≡ probe_line b ++ after →
 unfolding probe_line
 no_line b after = line_first (ascii "probe" ∷ yes_no b ∷ []) after
 
-pub refused_is : refused_line (record { number = 1; second = 0 }) ≡ line (ascii "refused" ∷ decimal_of 1 ∷ decimal_of 0 ∷ [])
+pub refused_is : refused_line (record { fault = TooShort; second = 0 }) ≡ line (ascii "refused" ∷ decimal_of 1 ∷ decimal_of 0 ∷ [])
 unfolding refused_line
 refused_is = refl
 
@@ -237,7 +240,7 @@ not_shifted w =
     let h : ◌≡◌ {A = ℕ} 11 1 = ap length m in absurd (omega (arith, h))
 
 -- a line that says an extent has no row of no rows
-pub not_few : ((before : List (List ℕ)) (l : List ℕ) (p k : ℕ) → LineAt joined before l p k → (x : VmdkParsedExtent) → line_of p l ≡ Extent x → length (extents_in (sayings 0 before)) < 0) → ⊥
+pub not_few : ((before : List (List ℕ)) (l : List ℕ) (p k : ℕ) → LineAt joined before l p k → (x : VmdkParsedExtent) → line_of p l ≡ Ok (Extent x) → length (extents_in (sayings 0 before)) < 0) → ⊥
 not_few s =
     let w = row_from_line joined joined_table joint_places.0 joined_opens.1 0 (omega (arith, joined_holds.0)) in
     absurd (omega (arith, s w.before w.line w.place w.number w.there w.extent w.says))
@@ -259,12 +262,12 @@ pub small_long : length small.extents ≡ most
 unfolding filled
 small_long = simp length-append (omega (arith, length-replicate {A = ReadExtent} (most - 1) no_read))
 
-pub many_refused : (build_of many).verdict ≡ refusal 23 0
+pub many_refused : (build_of many).verdict ≡ refusal CountTooLarge 0
 unfolding build_of
 many_refused = refl
 
 -- nothing is mapped of a disk that is not there
-pub not_zero : ZeroAt 0 ≡ (map_of (fresh []) 0 1).mapping → ⊥
+pub not_zero : Ok (ZeroAt 0) ≡ (map_of (fresh []) 0 1).mapping → ⊥
 unfolding read_of filled read_in bare rows_from build_of map_of
 not_zero e = let z : ◌≡◌ {A = ℕ} 0 1 = cc in absurd (omega arith)
 
@@ -285,19 +288,19 @@ pub alone_holds : ByLine alone × AllSound (sayings_of alone) × (length (extent
 unfolding sectors_of lead_of tail_of char_of blank text_from text_at sound drop_blanks last_end trim_text trim_of trimmed run_text run_of word_of find_from find_at same begins all_digits value digits_of digits_at sign_of number_of lines_of join_lines key_of kept_at kept_of second_of third_of three_words file_name_of file_start_of flat_line extent_line version_of value_of key_line word_of_access access_line text_line line_of sayings refuses extents_in
 alone_holds = (record { least = leb-true least_bytes (length alone) refl; small = leb-true (length alone) most_bytes refl; plain = refl }, (refl, leb-true 1 most refl), refl)
 
-pub behind_holds : ((read_of behind).verdict ≡ refusal 15 1) × (length (stored_of behind) ≡ 0) × (length (extents_in (sayings_of behind)) ≡ 1)
+pub behind_holds : ((read_of behind).verdict ≡ refusal OtherKey 1) × (length (stored_of behind) ≡ 0) × (length (extents_in (sayings_of behind)) ≡ 1)
 unfolding sectors_of lead_of tail_of char_of blank text_from text_at sound drop_blanks last_end trim_text trim_of trimmed run_text run_of word_of find_from find_at same begins all_digits value digits_of digits_at sign_of number_of lines_of join_lines geometry_key key_of kept_at kept_of second_of third_of three_words file_name_of file_start_of flat_line extent_line version_of value_of key_line word_of_access access_line text_line line_of read_lines read_of said_before stored_of sayings extents_in
 behind_holds = (refl, refl, refl)
 
 pub not_dropped : ((d : List ℕ) → ByLine d → AllSound (sayings_of d) → [] ≡ read_from 1 (sayings_of d)) → ⊥
 not_dropped s = let e : ◌≡◌ {A = ℕ} 0 1 = ap length (s alone alone_holds.0 alone_holds.1) ∙ read_length 1 (sayings_of alone) ∙ alone_holds.2 in absurd (omega (arith, e))
 
-pub not_behind : ((d l : List ℕ) (n k : ℕ) → ByLine d → (f : FirstRefused d l n k) → read_from 1 (sayings_of d) ≡ read_from 1 (sayings 0 f.before)) → ⊥
+pub not_behind : ((d l : List ℕ) (n : Fault) (k : ℕ) → ByLine d → (f : FirstRefused d l n k) → read_from 1 (sayings_of d) ≡ read_from 1 (sayings 0 f.before)) → ⊥
 not_behind s =
-    let w = (first_refused behind 15 1 (omega arith) (omega arith)).0 behind_holds.0 in
+    let w = (first_refused behind OtherKey 1 (omega arith) (omega arith)).0 behind_holds.0 in
     let l = w.1.0 in
     let f = w.1.1 in
-    let e : ◌≡◌ {A = ℕ} 1 0 = sym behind_holds.2 ∙ sym (read_length 1 (sayings_of behind)) ∙ ap length (s behind l 15 1 w.0 f ∙ sym ((reading_leaves behind no_record).before l 15 1 w.0 f)) ∙ behind_holds.1 in
+    let e : ◌≡◌ {A = ℕ} 1 0 = sym behind_holds.2 ∙ sym (read_length 1 (sayings_of behind)) ∙ ap length (s behind l OtherKey 1 w.0 f ∙ sym ((reading_leaves behind no_record).before l OtherKey 1 w.0 f)) ∙ behind_holds.1 in
     absurd (omega (arith, e))
 
 -- ---- lines
@@ -307,13 +310,13 @@ joined_read =
     omega (arith, joined_holds.0, r.count, counted_few (read_of joined).descriptor)
 
 -- counted from 0, the first extent's line is one too small
-first_later : (k : ℕ) (ss : List Said) → 0 < length (extents_in ss) → (get_or (read_from (suc k) ss) 0 no_read).line ≡ suc (get_or (read_from k ss) 0 no_read).line
+first_later : (k : ℕ) (ss : List (Result Said Fault)) → 0 < length (extents_in ss) → (get_or (read_from (suc k) ss) 0 no_read).line ≡ suc (get_or (read_from k ss) 0 no_read).line
 unfolding read_from extents_in
 first_later k [] h = absurd (omega arith)
-first_later k (Extent x ∷ ss) h = refl
-first_later k (Nothing ∷ ss) h = first_later (suc k) ss h
-first_later k (Set v ∷ ss) h = first_later (suc k) ss h
-first_later k (Said-as-Refused n ∷ ss) h = first_later (suc k) ss h
+first_later k (Ok (Extent x) ∷ ss) h = refl
+first_later k ((Ok Nothing) ∷ ss) h = first_later (suc k) ss h
+first_later k (Ok (Set v) ∷ ss) h = first_later (suc k) ss h
+first_later k (Err n ∷ ss) h = first_later (suc k) ss h
 
 pub not_from_zero : read_in (record_of no_desc (read_from 0 (sayings_of joined))) ≡ read_from 1 (sayings_of joined) → ⊥
 not_from_zero e =
@@ -355,7 +358,7 @@ oversized = lines ("version=1" ∷ "RW 36028797018963968 ZERO" ∷ [])
 abbrev pub overfull : List ℕ
 overfull = lines ("version=1" ∷ "RW 36028797018963967 ZERO" ∷ "RW 1 ZERO" ∷ [])
 
-sizes_refused : ((read_of oversized).verdict ≡ refusal 18 2) × ((read_of overfull).verdict ≡ refusal 19 3)
+sizes_refused : ((read_of oversized).verdict ≡ refusal SizeTooLarge 2) × ((read_of overfull).verdict ≡ refusal SumTooLarge 3)
 unfolding sectors_of lead_of tail_of char_of blank text_from text_at sound drop_blanks last_end trim_text trim_of trimmed run_text run_of word_of find_from find_at same begins all_digits value digits_of digits_at sign_of number_of lines_of geometry_key key_of kept_at kept_of second_of third_of three_words file_name_of file_start_of flat_line extent_line version_of value_of key_line word_of_access access_line text_line line_of set_of bytes_of sizes_from checked read_lines read_of
 sizes_refused = (refl, refl)
 
@@ -368,21 +371,21 @@ summed = record_of no_desc (at_line 7 (record { sectors = record { 0 = 360287970
 abbrev pub far : Record
 far = record_of no_desc (at_line 7 (record { sectors = record { 0 = 1 }; storage = Flat RW no_text (record { 0 = 36028797018963968 }) }) ∷ [])
 
-builds_refused : ((build_of large).verdict ≡ refusal 18 7) × ((build_of summed).verdict ≡ refusal 19 9) × ((build_of far).verdict ≡ refusal 20 7)
+builds_refused : ((build_of large).verdict ≡ refusal SizeTooLarge 7) × ((build_of summed).verdict ≡ refusal SumTooLarge 9) × ((build_of far).verdict ≡ refusal FileStartTooLarge 7)
 unfolding bytes_of filled read_in rows_from build_of
 builds_refused = (refl, refl, refl)
 
-pub not_oversized : (read_of oversized).verdict ≡ refusal 18 0 → ⊥
-not_oversized e = omega (arith, (never 18 0 18 2 (sym sizes_refused.0 ∙ e)).1)
+pub not_oversized : (read_of oversized).verdict ≡ refusal SizeTooLarge 0 → ⊥
+not_oversized e = omega (arith, (never SizeTooLarge 0 SizeTooLarge 2 (sym sizes_refused.0 ∙ e)).1)
 
-pub not_overfull : (read_of overfull).verdict ≡ refusal 19 1 → ⊥
-not_overfull e = omega (arith, (never 19 1 19 3 (sym sizes_refused.1 ∙ e)).1)
+pub not_overfull : (read_of overfull).verdict ≡ refusal SumTooLarge 1 → ⊥
+not_overfull e = omega (arith, (never SumTooLarge 1 SumTooLarge 3 (sym sizes_refused.1 ∙ e)).1)
 
-pub not_large : (build_of large).verdict ≡ refusal 18 0 → ⊥
-not_large e = omega (arith, (never 18 0 18 7 (sym builds_refused.0 ∙ e)).1)
+pub not_large : (build_of large).verdict ≡ refusal SizeTooLarge 0 → ⊥
+not_large e = omega (arith, (never SizeTooLarge 0 SizeTooLarge 7 (sym builds_refused.0 ∙ e)).1)
 
-pub not_summed : (build_of summed).verdict ≡ refusal 19 1 → ⊥
-not_summed e = omega (arith, (never 19 1 19 9 (sym builds_refused.1 ∙ e)).1)
+pub not_summed : (build_of summed).verdict ≡ refusal SumTooLarge 1 → ⊥
+not_summed e = omega (arith, (never SumTooLarge 1 SumTooLarge 9 (sym builds_refused.1 ∙ e)).1)
 
-pub not_far : (build_of far).verdict ≡ refusal 20 0 → ⊥
-not_far e = omega (arith, (never 20 0 20 7 (sym builds_refused.2 ∙ e)).1)
+pub not_far : (build_of far).verdict ≡ refusal FileStartTooLarge 0 → ⊥
+not_far e = omega (arith, (never FileStartTooLarge 0 FileStartTooLarge 7 (sym builds_refused.2 ∙ e)).1)

@@ -1,5 +1,6 @@
 -- Trimming, runs and words of a text on its code points alone: the places are the lengths of the encodings before them.
 -- So what is cut out between two places is the encodings of the code points between, by recursion on those.
+use Rattle.std.specs.Prelude.{None, Some}
 use Prim.Native.Nat.{ℕ, ◌+◌, ◌-◌, ◌<◌}
 use native.Mathlib.Omega.{arith}
 use mathlib.Core.List.{List, [], ◌∷◌, ◌++◌, append_assoc}
@@ -14,9 +15,7 @@ use Rattle.text.specs.Ranges.{pick}
 use Rattle.text.specs.Blank.{blank}
 use Rattle.text.specs.Text.{text_at, alike, drop_blanks, last_end, range_of, trim_text, trim_of, cut, trimmed, run_text, run_of, word_in, word_of, run_codes, past_codes, all_blank, end_codes, trim_codes, word_codes}
 use Rattle.theorems.specs.Unicode.{scalar, encode, scalars, encode_all}
-use Rattle.text.specs.declared.words.Trimmed.TheVariants.{Range}
-use Rattle.text.specs.declared.words.Word.TheVariants.{Found, None}
-use Rattle.text.proofs.Flat.{by_test}
+use Rattle.text.proofs.Flat.{by_test, pair_parts}
 use Rattle.theorems.proofs.Sequences.{spell, spelled, spell_sound}
 
 -- how many bytes the encodings of cs have
@@ -95,10 +94,10 @@ last_spelled l p [] = all_done l p
 last_spelled l p (c ∷ cs) = last_spelled (pick (blank c) l (p + length (encode c))) (p + length (encode c)) cs ∙ last_cons l p c cs
 
 -- the range of characters of which the first is no blank
-range_spelled : (p c : ℕ) (cs : List ℕ) → blank c ≡ false → range_of (spell p (c ∷ cs)) ≡ Range p (p + width (end_codes (c ∷ cs)))
+range_spelled : (p c : ℕ) (cs : List ℕ) → blank c ≡ false → range_of (spell p (c ∷ cs)) ≡ Some (p, p + width (end_codes (c ∷ cs)))
 unfolding spell all_blank
 range_spelled p c cs e =
-    ap (Range p) (last_spelled (p + length (encode c)) (p + length (encode c)) cs ∙ (rw e at (last_cons 0 p c cs)))
+    ap (λ z. Some (p, z)) (last_spelled (p + length (encode c)) (p + length (encode c)) cs ∙ (rw e at (last_cons 0 p c cs)))
 
 -- the first, if there is one, is no blank
 abbrev pub Open : List ℕ → Type 0
@@ -136,12 +135,12 @@ trimmed_codes cs s =
     (cut_spelled (encode_all cs) (0 + width (run_codes true cs)) (past_codes true cs) (past_open cs) (past_run true cs))
 
 -- and what it leaves begins behind the blanks in front, if it leaves anything
-range_place : (p : ℕ) (cs : List ℕ) → Open cs → 0 < width (end_codes cs) → {a e : ℕ} → range_of (spell p cs) ≡ Range a e → a ≡ p
+range_place : (p : ℕ) (cs : List ℕ) → Open cs → 0 < width (end_codes cs) → {a e : ℕ} → range_of (spell p cs) ≡ Some (a, e) → a ≡ p
 range_place p [] o h q = absurd (omega (arith, ap width (end_blank [] (unfold all_blank in refl)), width_nil))
 range_place p (c ∷ cs) o h {a} {e} q =
-    let g : Range p (p + width (end_codes (c ∷ cs))) ≡ Range a e = sym (range_spelled p c cs o) ∙ q in cc
+    let g : Some (p, p + width (end_codes (c ∷ cs))) ≡ Some (a, e) = sym (range_spelled p c cs o) ∙ q in sym (pair_parts g).0
 
-pub trim_place : (cs : List ℕ) → scalars cs ≡ true → 0 < length (encode_all (trim_codes cs)) → {a e : ℕ} → trim_of (encode_all cs) ≡ Range a e → a ≡ width (run_codes true cs)
+pub trim_place : (cs : List ℕ) → scalars cs ≡ true → 0 < length (encode_all (trim_codes cs)) → {a e : ℕ} → trim_of (encode_all cs) ≡ Some (a, e) → a ≡ width (run_codes true cs)
 unfolding trim_of trim_text text_at
 trim_place cs s h q =
     let z : 0 + width (run_codes true cs) ≡ width (run_codes true cs) = omega arith in
@@ -196,19 +195,20 @@ module _ (t : List ℕ) (at : ℕ) (cs : List ℕ) (s : scalars cs ≡ true) (e 
   word_none_codes = (
     λ h. by_test (eqb start (start + width (word_codes cs)))
         (λ f. width_zero (word_codes cs) (omega (arith, eqb-true start (start + width (word_codes cs)) f)))
-        (λ f. let g : Found start (start + width (word_codes cs)) ≡ None = sym (rw f at word_at) ∙ h in let z : ◌≡◌ {A = ℕ} 0 1 = cc in absurd (omega arith)),
+        (λ f. let g : Some (start, start + width (word_codes cs)) ≡ None = sym (rw f at word_at) ∙ h in let z : ◌≡◌ {A = ℕ} 0 1 = cc in absurd (omega arith)),
     λ h. let z : width (word_codes cs) ≡ 0 = rw h width_nil in
         rw (word_at, eq-eqb start (start + width (word_codes cs)) (omega arith)),
   )
 
   -- what is cut out is its encodings
-  pub word_some_codes : {a b : ℕ} → word_of t at ≡ Found a b → take (b - a) (drop a t) ≡ encode_all (word_codes cs)
+  pub word_some_codes : {a b : ℕ} → word_of t at ≡ Some (a, b) → take (b - a) (drop a t) ≡ encode_all (word_codes cs)
   word_some_codes {a} {b} h =
       by_test (eqb start (start + width (word_codes cs)))
-      (λ f. let g : None ≡ Found a b = sym (rw f at word_at) ∙ h in let z : ◌≡◌ {A = ℕ} 0 1 = cc in absurd (omega arith))
-      (λ f. let g : Found start (start + width (word_codes cs)) ≡ Found a b = sym (rw f at word_at) ∙ h in
-      let p : start ≡ a = cc in
-      let q : start + width (word_codes cs) ≡ b = cc in
+      (λ f. let g : None ≡ Some (a, b) = sym (rw f at word_at) ∙ h in let z : ◌≡◌ {A = ℕ} 0 1 = cc in absurd (omega arith))
+      (λ f. let g : Some (start, start + width (word_codes cs)) ≡ Some (a, b) = sym (rw f at word_at) ∙ h in
+      let k = pair_parts g in
+      let p : start ≡ a = k.0 in
+      let q : start + width (word_codes cs) ≡ b = k.1 in
       let n : start + width (word_codes cs) - start ≡ width (word_codes cs) = omega arith in
       rw (← q, ← p, n, run_past t at cs s e true, encode_run false (past_codes true cs))
       (take-append_seam (encode_all (word_codes cs)) (encode_all (past_codes false (past_codes true cs)))))

@@ -1,5 +1,6 @@
 -- What the text layer promises, in the words of the rules: start here. Each theorem is about the definitions of specs/, which the
 -- contracts of src/ name, and is proved by citing the laws of its subject.
+use Rattle.std.specs.Prelude.{None, Some}
 use Prim.Native.Nat.{ℕ, suc, ◌-◌, ◌*◌, ◌≤◌, ◌<◌}
 use native.Mathlib.Omega.{arith}
 use mathlib.Core.List.{List, [], ◌∷◌, ◌++◌}
@@ -19,11 +20,7 @@ use Rattle.text.specs.Number.{all_digits, value, digits_of, digits_at, sign_of, 
 use Rattle.text.specs.Find.{strip_of, part_of}
 use Rattle.text.specs.Sector.{bytes_of}
 use Rattle.text.specs.declared.utf8.Char.TheVariants.{Scalar, Bad, End}
-use Rattle.text.specs.declared.number.Num.TheVariants.{Value, Bad as Num-as-Bad}
-use Rattle.text.specs.declared.words.Trimmed.TheVariants.{Wrong}
-use Rattle.text.specs.declared.words.Word.TheVariants.{Found, None}
 use Rattle.text.specs.declared.sector.Sectors.{Sectors}
-use Rattle.text.specs.declared.sector.ByteCount.TheVariants.{Count, TooLarge}
 use Rattle.text.proofs.Chars.{char_end}
 use Rattle.text.proofs.Texts.{Fit, fit}
 use Rattle.theorems.proofs.Encodings.{read_encoding, stands_read, none_stands}
@@ -84,7 +81,7 @@ never_blank = (refl, (refl, (refl, (refl, (refl, (refl, (refl, (refl, tt))))))))
 
 -- ---- trimming and words
 -- Trimming refuses a text exactly if it is not accepted as UTF-8.
-pub trim_refuses : (t : List ℕ) → (trim_of t ≡ Wrong) ↔ (sound (text_at t 0) ≡ false)
+pub trim_refuses : (t : List ℕ) → (trim_of t ≡ None) ↔ (sound (text_at t 0) ≡ false)
 trim_refuses t = trim_wrong t
 
 -- It leaves the text without the blanks at both ends.
@@ -92,7 +89,7 @@ pub trimming : (cs : List ℕ) → scalars cs ≡ true → trimmed (encode_all c
 trimming cs s = trimmed_codes cs s
 
 -- The next word from a place is what stands past the blanks there and up to a blank; there is none if nothing stands there.
-pub next_word : (t : List ℕ) (at : ℕ) (cs : List ℕ) → scalars cs ≡ true → drop at t ≡ encode_all cs → ((word_of t at ≡ None) ↔ (word_codes cs ≡ [])) × ((a e : ℕ) → word_of t at ≡ Found a e → take (e - a) (drop a t) ≡ encode_all (word_codes cs))
+pub next_word : (t : List ℕ) (at : ℕ) (cs : List ℕ) → scalars cs ≡ true → drop at t ≡ encode_all cs → ((word_of t at ≡ None) ↔ (word_codes cs ≡ [])) × ((a e : ℕ) → word_of t at ≡ Some (a, e) → take (e - a) (drop a t) ≡ encode_all (word_codes cs))
 next_word t at cs s e = (word_none_codes t at cs s e, λ a b h. word_some_codes t at cs s e h)
 
 -- ---- lines
@@ -102,12 +99,12 @@ lines t = (lines_join t, whole_each (lines_of t) (lines_whole t), lines_count t)
 
 -- ---- numbers
 -- A text is a number exactly if it is one optional `+` and one or more digits, whose value is within the limit.
-pub number_rule : (limit v : ℕ) (t : List ℕ) → (number_of limit t ≡ Value v) ↔ ((ds : List ℕ) × Numeral ds t × (value ds ≡ v) × (v ≤ limit))
+pub number_rule : (limit v : ℕ) (t : List ℕ) → (number_of limit t ≡ Some v) ↔ ((ds : List ℕ) × Numeral ds t × (value ds ≡ v) × (v ≤ limit))
 number_rule limit v t =
     (number_out limit t, λ w. number_in limit w.0 t w.1 ∙ rw (w.2, le-leb v limit w.3))
 
 -- Any count of zeros may stand before the digits, with the sign and without.
-pub leading_zeros : (n limit : ℕ) (ds : List ℕ) → 0 < length ds → all_digits ds ≡ true → value ds ≤ limit → (number_of limit (zeros n ++ ds) ≡ Value (value ds)) × (number_of limit (0x2B ∷ zeros n ++ ds) ≡ Value (value ds))
+pub leading_zeros : (n limit : ℕ) (ds : List ℕ) → 0 < length ds → all_digits ds ≡ true → value ds ≤ limit → (number_of limit (zeros n ++ ds) ≡ Some (value ds)) × (number_of limit (0x2B ∷ zeros n ++ ds) ≡ Some (value ds))
 leading_zeros n limit ds h d v =
     let l : 0 < length (zeros n ++ ds) = rw length-append (omega arith) in
     let e = zeros_digits n ds ∙ d in
@@ -117,7 +114,7 @@ leading_zeros n limit ds h d v =
     )
 
 -- The empty text, `+` and `-0` are no numbers.
-pub no_numbers : (limit : ℕ) → (number_of limit [] ≡ Num-as-Bad) × (number_of limit (0x2B ∷ []) ≡ Num-as-Bad) × (number_of limit (0x2D ∷ 0x30 ∷ []) ≡ Num-as-Bad)
+pub no_numbers : (limit : ℕ) → (number_of limit [] ≡ None) × (number_of limit (0x2B ∷ []) ≡ None) × (number_of limit (0x2D ∷ 0x30 ∷ []) ≡ None)
 unfolding number_of digits_at digits_of sign_of all_digits
 no_numbers limit = (refl, refl, refl)
 
@@ -133,8 +130,8 @@ lone_quote = refl
 
 -- ---- sectors
 -- So many sectors have b bytes exactly if that is 512 times as many, and within 2^64-1; else they are too large.
-pub sector_bytes : (s : Sectors) (b : ℕ) → (bytes_of s ≡ Count (record { 0 = b })) ↔ ((s.0 * 512 ≡ b) × (b ≤ 18446744073709551615))
+pub sector_bytes : (s : Sectors) (b : ℕ) → (bytes_of s ≡ Some (record { 0 = b })) ↔ ((s.0 * 512 ≡ b) × (b ≤ 18446744073709551615))
 sector_bytes s b = bytes_rule s b
 
-pub sector_large : (s : Sectors) → (bytes_of s ≡ TooLarge) ↔ (18446744073709551615 < s.0 * 512)
+pub sector_large : (s : Sectors) → (bytes_of s ≡ None) ↔ (18446744073709551615 < s.0 * 512)
 sector_large s = bytes_large s

@@ -1,6 +1,7 @@
 -- What a route's pieces tile, where their bytes lie, where it ends and why, each by going along the route.
 -- A piece ends where its extent ends or where the range does, so the next begins in another extent or there is none.
 -- Assumes nothing.
+use Rattle.std.specs.Prelude.{Err, Ok, Result}
 use Prim.Native.Nat.{ℕ, suc, ◌+◌, ◌-◌, ◌<◌, ◌≤◌, min, max}
 use native.Mathlib.Omega.{arith}
 use mathlib.Core.List.{List, [], ◌∷◌}
@@ -13,8 +14,10 @@ use Rattle.lines.specs.declared.record.VmdkParsedExtent.{VmdkParsedExtent}
 use Rattle.lines.specs.declared.record.VmdkParsedStorage.{VmdkParsedStorage}
 use Rattle.lines.specs.declared.record.VmdkParsedStorage.TheVariants.{NoAccess, Zero, Flat}
 use Rattle.tables.specs.declared.table.Piece.{Piece}
+use Rattle.tables.specs.declared.table.Stop.TheVariants.{Done}
 use Rattle.tables.specs.declared.table.Stop.{Stop}
-use Rattle.tables.specs.declared.table.Stop.TheVariants.{Done, Refused as Stopped}
+use Rattle.lines.specs.declared.record.Fault.{Fault}
+use Rattle.lines.specs.declared.record.Fault.TheVariants.{Inaccessible}
 use Rattle.maps.specs.Place.{within, bytes_in, size_of, place_from}
 use Rattle.theorems.specs.Tiling.{rows_of, ZeroPlain, All, Follow, is_locked, readable, byte_of, met_from}
 use Rattle.text.proofs.Flat.{by_test, pick_same}
@@ -25,7 +28,7 @@ all_map P Q f [] h = tt
 all_map P Q f (x ∷ l) h = (f x h.0, all_map P Q f l h.1)
 
 -- (a)
-pub route_follow : {begin i pos hi q : ℕ} {xs : List VmdkParsedExtent} {ps : List Piece} {s : Stop} → Route begin i xs pos hi ps s q → Follow pos ps q
+pub route_follow : {begin i pos hi q : ℕ} {xs : List VmdkParsedExtent} {ps : List Piece} {s : Result Stop Fault} → Route begin i xs pos hi ps s q → Follow pos ps q
 route_follow (over h) = refl
 route_follow (done h) = refl
 route_follow (pass h r) = route_follow r
@@ -47,7 +50,7 @@ lies_here begin i pos hi x xs p a m = (
       place_here i x xs begin (p.start + d) (omega (arith, m.start)) (omega (arith, m.start, m.run)) ∙ rw e (m.bytes d),
 )
 
-pub route_lies : {begin i pos hi q : ℕ} {xs : List VmdkParsedExtent} {ps : List Piece} {s : Stop} → Route begin i xs pos hi ps s q → All (Lies begin i xs) ps
+pub route_lies : {begin i pos hi q : ℕ} {xs : List VmdkParsedExtent} {ps : List Piece} {s : Result Stop Fault} → Route begin i xs pos hi ps s q → All (Lies begin i xs) ps
 route_lies (over h) = tt
 route_lies (done h) = tt
 route_lies (pass {begin = begin} {i = i} {x = x} {xs = xs} {ps = ps} h r) =
@@ -56,7 +59,7 @@ route_lies (shut a b c e) = tt
 route_lies (piece {begin = begin} {i = i} {pos = pos} {hi = hi} {x = x} {xs = xs} {p = p} {ps = ps} a b c m r) =
     (lies_here begin i pos hi x xs p a m, all_map (Lies (begin + bytes_in x) (suc i) xs) (Lies begin i (x ∷ xs)) (lies_next begin i x xs) ps (route_lies r))
 
-pub route_zeros : {begin i pos hi q : ℕ} {xs : List VmdkParsedExtent} {ps : List Piece} {s : Stop} → Route begin i xs pos hi ps s q → All ZeroPlain ps
+pub route_zeros : {begin i pos hi q : ℕ} {xs : List VmdkParsedExtent} {ps : List Piece} {s : Result Stop Fault} → Route begin i xs pos hi ps s q → All ZeroPlain ps
 route_zeros (over h) = tt
 route_zeros (done h) = tt
 route_zeros (pass h r) = route_zeros r
@@ -64,11 +67,11 @@ route_zeros (shut a b c e) = tt
 route_zeros (piece a b c m r) = (m.zero_piece_lem, route_zeros r)
 
 -- (b), (f): the position reached, that no access lies before it, and why the route ends there
-abbrev pub Why : ℕ → ℕ → List VmdkParsedExtent → ℕ → ℕ → Stop → ℕ → Type 0
+abbrev pub Why : ℕ → ℕ → List VmdkParsedExtent → ℕ → ℕ → Result Stop Fault → ℕ → Type 0
 Why begin i xs pos hi s q =
-    ((s ≡ Done) × (q ≡ max pos (min hi (begin + size_of xs)))) ⊎ ((s ≡ Stopped 21) × (q < min hi (begin + size_of xs)) × (is_locked (place_from i xs (q - begin)) ≡ true))
+    ((s ≡ (Ok Done)) × (q ≡ max pos (min hi (begin + size_of xs)))) ⊎ ((s ≡ Err Inaccessible) × (q < min hi (begin + size_of xs)) × (is_locked (place_from i xs (q - begin)) ≡ true))
 
-pub record Reached (begin i : ℕ) (xs : List VmdkParsedExtent) (pos hi : ℕ) (s : Stop) (q : ℕ) : Type 0 where
+pub record Reached (begin i : ℕ) (xs : List VmdkParsedExtent) (pos hi : ℕ) (s : Result Stop Fault) (q : ℕ) : Type 0 where
   pub up : pos ≤ q
   pub cap : q ≤ max pos (min hi (begin + size_of xs))
   pub free : (at : ℕ) → pos ≤ at → at < q → is_locked (place_from i xs (at - begin)) ≡ false
@@ -79,18 +82,18 @@ reads_free NoAccess i o e = sym e
 reads_free (Zero a) i o e = refl
 reads_free (Flat a name start) i o e = refl
 
-reached_here : (begin i : ℕ) (xs : List VmdkParsedExtent) (pos hi : ℕ) → max pos (min hi (begin + size_of xs)) ≡ pos → Reached begin i xs pos hi Done pos
+reached_here : (begin i : ℕ) (xs : List VmdkParsedExtent) (pos hi : ℕ) → max pos (min hi (begin + size_of xs)) ≡ pos → Reached begin i xs pos hi (Ok Done) pos
 reached_here begin i xs pos hi e =
     record { up = omega arith; cap = omega arith; free = λ at a b. absurd (omega arith); why = inl (refl, sym e) }
 
 module _ (begin i : ℕ) (x : VmdkParsedExtent) (xs : List VmdkParsedExtent) (pos hi : ℕ) where
-  reached_shut : begin ≤ pos → pos < begin + bytes_in x → pos < hi → x.storage ≡ NoAccess → Reached begin i (x ∷ xs) pos hi (Stopped 21) pos
+  reached_shut : begin ≤ pos → pos < begin + bytes_in x → pos < hi → x.storage ≡ NoAccess → Reached begin i (x ∷ xs) pos hi (Err Inaccessible) pos
   unfolding size_of
   reached_shut a b c e =
       let l : is_locked (place_from i (x ∷ xs) (pos - begin)) ≡ true = rw (place_here i x xs begin pos a b, e) in
       record { up = omega arith; cap = omega arith; free = λ at a b. absurd (omega arith); why = inr (refl, omega arith, l) }
 
-  module _ (s : Stop) (q : ℕ) where
+  module _ (s : Result Stop Fault) (q : ℕ) where
     reached_pass : begin + bytes_in x ≤ pos → Reached (begin + bytes_in x) (suc i) xs pos hi s q → Reached begin i (x ∷ xs) pos hi s q
     unfolding size_of
     reached_pass h r =
@@ -121,7 +124,7 @@ module _ (begin i : ℕ) (x : VmdkParsedExtent) (xs : List VmdkParsedExtent) (po
         go (inl e) = inl (e.0, omega arith)
         go (inr e) = inr (e.0, omega arith, rw (place_next i x xs begin q (omega (arith, r.up))) e.2)
 
-pub route_reached : {begin i pos hi q : ℕ} {xs : List VmdkParsedExtent} {ps : List Piece} {s : Stop} → Route begin i xs pos hi ps s q → Reached begin i xs pos hi s q
+pub route_reached : {begin i pos hi q : ℕ} {xs : List VmdkParsedExtent} {ps : List Piece} {s : Result Stop Fault} → Route begin i xs pos hi ps s q → Reached begin i xs pos hi s q
 unfolding size_of
 route_reached (over {begin = begin} {i = i} {pos = pos} {hi = hi} h) = reached_here begin i [] pos hi (omega arith)
 route_reached (done {begin = begin} {i = i} {pos = pos} {hi = hi} {xs = xs} h) = reached_here begin i xs pos hi (omega arith)
@@ -158,7 +161,7 @@ met_piece : (begin i pos hi q : ℕ) (x : VmdkParsedExtent) (xs : List VmdkParse
 met_piece begin i pos hi q x xs p ps a b c d m e =
     rw (met_here begin i x xs pos q m.reads (omega arith), m.row, e, met_from_lem (begin + bytes_in x) (suc i) xs (min hi (begin + bytes_in x)) pos q (omega arith) (omega arith))
 
-pub route_met : {begin i pos hi q : ℕ} {xs : List VmdkParsedExtent} {ps : List Piece} {s : Stop} → Route begin i xs pos hi ps s q → rows_of ps ≡ met_from begin i xs pos q
+pub route_met : {begin i pos hi q : ℕ} {xs : List VmdkParsedExtent} {ps : List Piece} {s : Result Stop Fault} → Route begin i xs pos hi ps s q → rows_of ps ≡ met_from begin i xs pos q
 route_met (over h) = unfold met_from in refl
 route_met (done {begin = begin} {i = i} {pos = pos} {xs = xs} h) = sym (met_empty begin i xs pos pos (omega arith))
 route_met (pass {begin = begin} {i = i} {pos = pos} {q = q} {x = x} {xs = xs} h r) =

@@ -1,5 +1,6 @@
 -- An answer's first bytes tell what it is: the probe's line, a mapping, a piece, a stop, or a refusal, whose number is its second word.
 -- Reading, building, mapping and the walk give no number above 23, so `refused 24 0` is the answer to too long an input alone.
+use Rattle.std.specs.Prelude.{Err, Ok, Result, Some}
 use Prim.Native.Nat.{ℕ, zero, suc, ◌%◌, ◌/◌, ◌≤◌, ◌<◌}
 use native.Mathlib.Omega.{arith}
 use mathlib.Core.List.{List, [], ◌∷◌, ◌++◌, append_assoc}
@@ -12,17 +13,14 @@ use Rattle.text.specs.Ascii.{ascii}
 use Rattle.text.specs.Lines.{count}
 use Rattle.text.specs.Number.{number_of}
 use Rattle.text.specs.Sector.{largest}
-use Rattle.text.specs.declared.number.Num.TheVariants.{Value}
 use Rattle.text.proofs.Flat.{by_test}
 use Rattle.lines.specs.declared.record.Refusal.{Refusal}
 use Rattle.descriptor.specs.Read.{read_of}
 use Rattle.tables.specs.declared.table.Row.{Row}
 use Rattle.tables.specs.declared.table.Table.{Table}
-use Rattle.tables.specs.declared.table.ShallowMapping.{ShallowMapping}
-use Rattle.tables.specs.declared.table.ShallowMapping.TheVariants.{Eof, Zero, Raw, Refused}
+use Rattle.tables.specs.declared.table.ShallowMapping.TheVariants.{Eof, Zero, Raw}
 use Rattle.tables.specs.declared.table.Piece.{Piece}
-use Rattle.tables.specs.declared.table.Stop.{Stop}
-use Rattle.tables.specs.declared.table.Stop.TheVariants.{Done, More, Refused as Stopped}
+use Rattle.tables.specs.declared.table.Stop.TheVariants.{Done, More}
 use Rattle.maps.specs.Map.{map_of}
 use Rattle.maps.specs.Walk.{Walk, walk_of}
 use Rattle.puts.specs.Decimal.{digit, digits_in, decimal_of}
@@ -34,6 +32,11 @@ use Rattle.walk_lines.specs.Walk.{piece_from, piece_line, stop_text, stop_line, 
 use Rattle.report.specs.Command.{most_input, said, answer_of}
 use Rattle.report.specs.declared.command.Command.{Command}
 use Rattle.report.specs.declared.command.Command.TheVariants.{Report, Map, Walk as Walks, Usage}
+use Rattle.tables.specs.declared.table.ShallowMapping.{ShallowMapping}
+use Rattle.tables.specs.declared.table.Stop.{Stop}
+use Rattle.lines.specs.declared.record.Fault.{Fault}
+use Rattle.lines.specs.declared.record.Fault.TheVariants.{CountTooLarge}
+use Rattle.lines.specs.Fault.{refusal_number}
 use Rattle.theorems.specs.Cases.{lines}
 use Rattle.theorems.specs.NamedPlaces.{up_to, behind}
 use Rattle.theorems.specs.Reports.{RefusedBy, Opens}
@@ -92,46 +95,46 @@ refused_number n rest h e =
     let a : behind 0x20 (spaced (ascii "refused") ++ (spaced (decimal_of n) ++ rest)) ≡ decimal_of n ++ 0x20 ∷ rest = q in
     let b : up_to 0x20 (decimal_of n ++ 0x20 ∷ rest) ≡ decimal_of n = up_to_lem 0x20 (decimal_of n) rest (no_space (decimal_of n) (all_digits n n)) in
     let f : decimal_of n ≡ decimal_of 24 = sym b ∙ ap (up_to 0x20) (sym a) ∙ ap (λ (x : List ℕ). up_to 0x20 (behind 0x20 x)) e in
-    let v : Value n ≡ Value 24 = sym (digits_read_back n (omega arith)) ∙ ap (number_of largest) f ∙ digits_read_back 24 (omega arith) in
+    let v : Some n ≡ Some 24 = sym (digits_read_back n (omega arith)) ∙ ap (number_of largest) f ∙ digits_read_back 24 (omega arith) in
     let z : n ≡ 24 = cc in absurd (omega arith)
 
-refused_line_lem : (x : Refusal) → x.number ≤ 23 → refused_line x ≡ due → ⊥
+refused_line_lem : (x : Refusal) → refusal_number x.fault ≤ 23 → refused_line x ≡ due → ⊥
 unfolding refused_line line
-refused_line_lem x h e = refused_number x.number _ h e
+refused_line_lem x h e = refused_number (refusal_number x.fault) _ h e
 
 -- ---- by what is answered
-by_23 : (d : List ℕ) (x : Refusal) → RefusedBy d x → x.number ≤ 23
-by_23 d x (inl e) = omega (arith, (read_few d x.number x.second e).1)
-by_23 d x (inr e) = few (build_few (read_of d).descriptor x.number x.second e.1)
+by_23 : (d : List ℕ) (x : Refusal) → RefusedBy d x → refusal_number x.fault ≤ 23
+by_23 d x (inl e) = omega (arith, (read_few d x.fault x.second e).1)
+by_23 d x (inr e) = few (build_few (read_of d).descriptor x.fault x.second e.1)
   where
-    few : ((18 ≤ x.number) × (x.number ≤ 20)) ⊎ (x.number ≡ 23) → x.number ≤ 23
+    few : ((18 ≤ refusal_number x.fault) × (refusal_number x.fault ≤ 20)) ⊎ (x.fault ≡ CountTooLarge) → refusal_number x.fault ≤ 23
     few (inl h) = omega (arith, h.1)
-    few (inr h) = omega (arith, h)
+    few (inr h) = omega (arith, ap refusal_number h)
 
 report_due : (d : List ℕ) → report_of d ≡ due → ⊥
 unfolding report_of probe_line line spaced
 report_due d e = let h : ◌≡◌ {A = ℕ} 0x70 0x72 = ap (λ (x : List ℕ). get_or x 0 0) e in absurd (omega (arith, h))
 
-mapping_due : (d : List ℕ) (rows : List Row) (run n : ℕ) (m : ShallowMapping) → ((k : ℕ) → m ≡ Refused k → k ≤ 23) → line (mapping_words d rows run n m) ≡ due → ⊥
+mapping_due : (d : List ℕ) (rows : List Row) (run n : ℕ) (m : Result ShallowMapping Fault) → ((k : Fault) → m ≡ Err k → refusal_number k ≤ 23) → line (mapping_words d rows run n m) ≡ due → ⊥
 unfolding line spaced
-mapping_due d rows run n Eof h e = let f : ◌≡◌ {A = ℕ} 0x65 0x72 = ap (λ (x : List ℕ). get_or x 0 0) e in absurd (omega (arith, f))
-mapping_due d rows run n (Zero i) h e = let f : ◌≡◌ {A = ℕ} 0x7A 0x72 = ap (λ (x : List ℕ). get_or x 0 0) e in absurd (omega (arith, f))
-mapping_due d rows run n (Raw i o w) h e = let f : ◌≡◌ {A = ℕ} 0x61 0x65 = ap (λ (x : List ℕ). get_or x 1 0) e in absurd (omega (arith, f))
-mapping_due d rows run n (Refused k) h e = refused_number k _ (h k refl) e
+mapping_due d rows run n (Ok Eof) h e = let f : ◌≡◌ {A = ℕ} 0x65 0x72 = ap (λ (x : List ℕ). get_or x 0 0) e in absurd (omega (arith, f))
+mapping_due d rows run n (Ok (Zero i)) h e = let f : ◌≡◌ {A = ℕ} 0x7A 0x72 = ap (λ (x : List ℕ). get_or x 0 0) e in absurd (omega (arith, f))
+mapping_due d rows run n (Ok (Raw i o w)) h e = let f : ◌≡◌ {A = ℕ} 0x61 0x65 = ap (λ (x : List ℕ). get_or x 1 0) e in absurd (omega (arith, f))
+mapping_due d rows run n (Err k) h e = refused_number (refusal_number k) _ (h k refl) e
 
-stop_words : (k : ℕ) (rest : List ℕ) → stop_text (Stopped k) ++ rest ≡ spaced (ascii "refused") ++ (spaced (decimal_of k) ++ (spaced (ascii "0 at") ++ rest))
+stop_words : (k : Fault) (rest : List ℕ) → stop_text (Err k) ++ rest ≡ spaced (ascii "refused") ++ (spaced (decimal_of (refusal_number k)) ++ (spaced (ascii "0 at") ++ rest))
 unfolding field
 stop_words k rest =
-    append_assoc (spaced (ascii "refused") ++ spaced (decimal_of k)) (spaced (ascii "0 at")) rest
-    ∙ append_assoc (spaced (ascii "refused")) (spaced (decimal_of k)) (spaced (ascii "0 at") ++ rest)
+    append_assoc (spaced (ascii "refused") ++ spaced (decimal_of (refusal_number k))) (spaced (ascii "0 at")) rest
+    ∙ append_assoc (spaced (ascii "refused")) (spaced (decimal_of (refusal_number k))) (spaced (ascii "0 at") ++ rest)
 
-stop_due : (s : Stop) (rest : List ℕ) → ((k : ℕ) → s ≡ Stopped k → k ≤ 23) → stop_text s ++ rest ≡ due → ⊥
+stop_due : (s : Result Stop Fault) (rest : List ℕ) → ((k : Fault) → s ≡ Err k → refusal_number k ≤ 23) → stop_text s ++ rest ≡ due → ⊥
 unfolding spaced
-stop_due Done rest h e = let f : ◌≡◌ {A = ℕ} 0x64 0x72 = ap (λ (x : List ℕ). get_or x 0 0) e in absurd (omega (arith, f))
-stop_due More rest h e = let f : ◌≡◌ {A = ℕ} 0x6D 0x72 = ap (λ (x : List ℕ). get_or x 0 0) e in absurd (omega (arith, f))
-stop_due (Stopped k) rest h e = refused_number k (spaced (ascii "0 at") ++ rest) (h k refl) (sym (stop_words k rest) ∙ e)
+stop_due (Ok Done) rest h e = let f : ◌≡◌ {A = ℕ} 0x64 0x72 = ap (λ (x : List ℕ). get_or x 0 0) e in absurd (omega (arith, f))
+stop_due (Ok More) rest h e = let f : ◌≡◌ {A = ℕ} 0x6D 0x72 = ap (λ (x : List ℕ). get_or x 0 0) e in absurd (omega (arith, f))
+stop_due (Err k) rest h e = refused_number (refusal_number k) (spaced (ascii "0 at") ++ rest) (h k refl) (sym (stop_words k rest) ∙ e)
 
-walk_due : (d : List ℕ) (rows : List Row) (ps : List Piece) (s : Stop) (rest : List ℕ) → ((k : ℕ) → s ≡ Stopped k → k ≤ 23) → lines_to (piece_line d rows) ps (length ps) ++ (stop_text s ++ rest) ≡ due → ⊥
+walk_due : (d : List ℕ) (rows : List Row) (ps : List Piece) (s : Result Stop Fault) (rest : List ℕ) → ((k : Fault) → s ≡ Err k → refusal_number k ≤ 23) → lines_to (piece_line d rows) ps (length ps) ++ (stop_text s ++ rest) ≡ due → ⊥
 unfolding lines_to lines_from piece_from piece_line line spaced
 walk_due d rows [] s rest h e = stop_due s rest h e
 walk_due d rows (p ∷ ps) s rest h e = number_first p.start _ (simp append_assoc at e)

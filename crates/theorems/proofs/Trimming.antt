@@ -1,5 +1,6 @@
 -- What trimming takes away is blanks, so blanks that are put before or behind a text change nothing of what it leaves.
 -- A byte of ASCII stands in a sound text only as a character of its own, so a cut there leaves sound texts, and no blank holds it.
+use Rattle.std.specs.Prelude.{None, Some}
 use Prim.Native.Nat.{ℕ, suc, ◌+◌, ◌/◌, ◌≤◌, ◌<◌}
 use native.Mathlib.Omega.{arith}
 use mathlib.Core.List.{List, [], ◌∷◌, ◌++◌, append_assoc}
@@ -15,9 +16,6 @@ use Rattle.text.specs.Lines.{count}
 use Rattle.text.specs.Text.{alike, text_at, sound, trim_of, trimmed, run_of, word_of, run_codes, past_codes, all_blank, end_codes, trim_codes, word_codes}
 use Rattle.text.specs.inside.Codes.{codes}
 use Rattle.theorems.specs.Unicode.{scalar, encode, trailing, scalars, encode_all}
-use Rattle.text.specs.declared.find.Place.TheVariants.{Here, Nowhere}
-use Rattle.text.specs.declared.words.Trimmed.TheVariants.{Range}
-use Rattle.text.specs.declared.words.Word.TheVariants.{None}
 use Rattle.text.proofs.Flat.{by_test}
 use Rattle.theorems.proofs.Sequences.{sound_cut}
 use Rattle.theorems.proofs.Spellings.{end_blank, Open, past_open, trimmed_codes, trim_place, encode_run, past_scalars, encode_some, run_codes_lem, run_past as codes-past, word_none_codes}
@@ -126,7 +124,7 @@ pub record Trimming (t : List ℕ) : Type 0 where
   pub left : trimmed t ≡ encode_all middle
   pub firm : Open middle
   pub shut : end_codes middle ≡ middle
-  pub place : 0 < length (trimmed t) → {a e : ℕ} → trim_of t ≡ Range a e → a ≡ length (encode_all front)
+  pub place : 0 < length (trimmed t) → {a e : ℕ} → trim_of t ≡ Some (a, e) → a ≡ length (encode_all front)
 
 pub trim_parts : (t : List ℕ) → sound (text_at t 0) ≡ true → Trimming t
 trim_parts t h =
@@ -263,16 +261,16 @@ count_cut b [] r = let z : 0 + count b r ≡ count b r = omega arith in rw (eq-e
 count_cut b (x ∷ l) r =
     by_test (eqb x b) (λ e. rw (e, count_cut b l r) (omega arith)) (λ e. rw (e, count_cut b l r))
 
-pub find_none : (b p : ℕ) (l : List ℕ) → count b l ≡ 0 → find_from b p l ≡ Nowhere
+pub find_none : (b p : ℕ) (l : List ℕ) → count b l ≡ 0 → find_from b p l ≡ None
 unfolding find_from count
 find_none b p [] h = refl
 find_none b p (x ∷ r) h =
     by_test (eqb x b) (λ e. let g : suc (count b r) ≡ 0 = rw e at h in absurd (omega arith))
     (λ e. rw e (find_none b (suc p) r (rw e at h)))
 
-pub find_behind : (b p : ℕ) (l r : List ℕ) → count b l ≡ 0 → find_from b p (l ++ b ∷ r) ≡ Here (p + length l)
+pub find_behind : (b p : ℕ) (l r : List ℕ) → count b l ≡ 0 → find_from b p (l ++ b ∷ r) ≡ Some (p + length l)
 unfolding find_from count
 find_behind b p [] r h = let q : p ≡ p + 0 = omega arith in rw (eq-eqb b b refl, ← q)
 find_behind b p (x ∷ l) r h =
     by_test (eqb x b) (λ e. let g : suc (count b l) ≡ 0 = rw e at h in absurd (omega arith))
-    (λ e. let q : suc p + length l ≡ p + suc (length l) = omega arith in rw e (find_behind b (suc p) l r (rw e at h) ∙ ap Here q))
+    (λ e. let q : suc p + length l ≡ p + suc (length l) = omega arith in rw e (find_behind b (suc p) l r (rw e at h) ∙ ap Some q))

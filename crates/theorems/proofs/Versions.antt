@@ -1,5 +1,6 @@
 -- A line's first `=` is that of what trimming leaves of it, and blanks at the ends change neither its key nor its value once these are trimmed.
 -- So on a line that is not refused probing answers by the version that reading sets, and passes over any other.
+use Rattle.std.specs.Prelude.{Bool, Err, None, Ok, Option, Result, Some}
 use Prim.Native.Nat.{ℕ, zero, suc, ◌+◌, ◌≤◌}
 use native.Mathlib.Omega.{arith}
 use mathlib.Core.List.{List, [], ◌∷◌, ◌++◌, append_assoc}
@@ -17,11 +18,6 @@ use Rattle.text.specs.Lines.{count, lines_of}
 use Rattle.text.specs.Text.{trim_of, trimmed}
 use Rattle.theorems.specs.Unicode.{scalars, encode_all}
 use Rattle.text.specs.Number.{number_of}
-use Rattle.text.specs.declared.words.Trimmed.{Trimmed}
-use Rattle.text.specs.declared.words.Trimmed.TheVariants.{Range, Wrong}
-use Rattle.text.specs.declared.find.Place.TheVariants.{Here}
-use Rattle.text.specs.declared.number.Num.{Num}
-use Rattle.text.specs.declared.number.Num.TheVariants.{Value, Bad}
 use Rattle.text.proofs.Flat.{by_test, pick_all}
 use Rattle.text.proofs.Finds.{same_is}
 use Rattle.lines.specs.Record.{most_bytes, no_desc, refusal}
@@ -29,7 +25,7 @@ use Rattle.text.specs.Ascii.{ascii}
 use Rattle.keys.specs.Key.{key_of, geometry_key}
 use Rattle.lines.specs.Extent.{part, no_access_line, extent_line}
 use Rattle.lines.specs.Line.{version_limit, version_by, version_of, geometry_of, geometry_by, geometry_line, value_of, key_line, access_word, access_line, first_blank, skipped, text_line, line_of}
-use Rattle.descriptor.specs.Read.{least_bytes, set_of, sizes_from, checked, read_of}
+use Rattle.descriptor.specs.Read.{Read, least_bytes, set_of, sizes_from, checked, read_of}
 use Rattle.probing.specs.Probe.{verdict_of, probe_key, probe_line, first_answer, probe_lines, probe_of}
 use Rattle.theorems.specs.Statements.{ByLine, sayings, sayings_of, refuses, AllSound, first_version, version_after, last_version, read_from}
 use Rattle.keys.specs.declared.key.Key.{Key}
@@ -37,17 +33,15 @@ use Rattle.keys.specs.declared.key.Key.TheVariants.{Version, Cid, ParentCid, Cre
 use Rattle.keys.specs.declared.key.Geometry.{Geometry}
 use Rattle.keys.specs.declared.key.Geometry.TheVariants.{Sectors, Heads, Cylinders}
 use Rattle.lines.specs.declared.line.Setting.TheVariants.{Version as Is-as-Version, Cid as Is-as-Cid, ParentCid as Is-as-ParentCid, CreateType as Is-as-CreateType, Sectors as Is-as-Sectors, Heads as Is-as-Heads, Cylinders as Is-as-Cylinders}
-use Rattle.lines.specs.declared.line.Said.{Said}
-use Rattle.lines.specs.declared.line.Said.TheVariants.{Nothing, Extent, Set, Refused}
+use Rattle.lines.specs.declared.line.Said.TheVariants.{Nothing, Extent, Set}
 use Rattle.lines.specs.declared.line.AccessWord.{AccessWord}
 use Rattle.lines.specs.declared.line.AccessWord.TheVariants.{NoAccess, RdOnly, RW, Other}
 use Rattle.lines.specs.declared.record.VmdkAccessType.TheVariants.{RdOnly as ReadOnly, RW as ReadWrite}
-use Rattle.probing.specs.declared.probe.Probed.{Probed}
-use Rattle.probing.specs.declared.probe.Probed.TheVariants.{Pass, Answer}
-use Rattle.lines.specs.declared.record.Verdict.TheVariants.{Sound}
 use Rattle.lines.specs.declared.record.VmdkDesc.{VmdkDesc}
 use Rattle.lines.specs.declared.record.ReadExtent.{ReadExtent}
-use Rattle.descriptor.specs.declared.read.Read.{Read}
+use Rattle.lines.specs.declared.line.Said.{Said}
+use Rattle.lines.specs.declared.record.Fault.{Fault}
+use Rattle.lines.specs.declared.record.Fault.TheVariants.{NotUtf8, OtherVersion}
 use Rattle.theorems.proofs.RefusalNumbers.{OfExtent, extent_locked_line, extent_line_lem}
 use Rattle.theorems.proofs.Trimming.{Trimming, trim_front, trim_back, first_byte, encode_append, encode_cut, scalars_split, cut_at, blanks_free, count_append, find_none, find_behind}
 use Rattle.theorems.proofs.Sayings.{From, from_sizes, from_answer, set_all, never}
@@ -55,23 +49,23 @@ use Rattle.theorems.proofs.Verdicts.{late, lines_sound, lines_checked, accepted_
 use Rattle.theorems.proofs.ExtentLines.{range_is, range_sound}
 
 -- ---- what says no version
-abbrev NoVersion : Said → Type 0
-NoVersion (Set (Is-as-Version v)) = ⊥
-NoVersion (Set (Is-as-Cid x)) = Unit {0}
-NoVersion (Set (Is-as-ParentCid x)) = Unit {0}
-NoVersion (Set (Is-as-CreateType x)) = Unit {0}
-NoVersion (Set (Is-as-Sectors n)) = Unit {0}
-NoVersion (Set (Is-as-Heads n)) = Unit {0}
-NoVersion (Set (Is-as-Cylinders n)) = Unit {0}
-NoVersion Nothing = Unit {0}
-NoVersion (Extent x) = Unit {0}
-NoVersion (Refused n) = Unit {0}
+abbrev NoVersion : Result Said Fault → Type 0
+NoVersion (Ok (Set (Is-as-Version v))) = ⊥
+NoVersion (Ok (Set (Is-as-Cid x))) = Unit {0}
+NoVersion (Ok (Set (Is-as-ParentCid x))) = Unit {0}
+NoVersion (Ok (Set (Is-as-CreateType x))) = Unit {0}
+NoVersion (Ok (Set (Is-as-Sectors n))) = Unit {0}
+NoVersion (Ok (Set (Is-as-Heads n))) = Unit {0}
+NoVersion (Ok (Set (Is-as-Cylinders n))) = Unit {0}
+NoVersion (Ok Nothing) = Unit {0}
+NoVersion (Ok (Extent x)) = Unit {0}
+NoVersion (Err n) = Unit {0}
 
-extent_no : (s : Said) → OfExtent s → NoVersion s
-extent_no Nothing h = tt
-extent_no (Set v) h = absurd h
-extent_no (Extent x) h = tt
-extent_no (Refused n) h = tt
+extent_no : (s : Result Said Fault) → OfExtent s → NoVersion s
+extent_no (Ok Nothing) h = tt
+extent_no (Ok (Set v)) h = absurd h
+extent_no (Ok (Extent x)) h = tt
+extent_no (Err n) h = tt
 
 -- a key other than `version`
 abbrev OtherKey : Key → Type 0
@@ -104,11 +98,11 @@ version_key : (k : List ℕ) → same k (ascii "version") ≡ true → key_of k 
 unfolding key_of
 version_key k e = rw e
 
-no_geometry : (g : Geometry) (n : Num) → NoVersion (geometry_by g n)
-no_geometry Sectors (Value v) = tt
-no_geometry Heads (Value v) = tt
-no_geometry Cylinders (Value v) = tt
-no_geometry g Bad = tt
+no_geometry : (g : Geometry) (n : Option ℕ) → NoVersion (geometry_by g n)
+no_geometry Sectors (Some v) = tt
+no_geometry Heads (Some v) = tt
+no_geometry Cylinders (Some v) = tt
+no_geometry g None = tt
 
 no_value : (k : Key) (p : ℕ) (v : List ℕ) → OtherKey k → NoVersion (value_of k p v)
 unfolding value_of geometry_line
@@ -133,7 +127,7 @@ module _ (p : ℕ) (t : List ℕ) (k : NoVersion (key_line p t)) where
   no_text : NoVersion (text_line p t)
   unfolding text_line
   no_text =
-      pick_all NoVersion (skipped t) Nothing _ tt
+      pick_all NoVersion (skipped t) (Ok Nothing) _ tt
       (pick_all NoVersion (ltb (first_blank t) (length t)) (access_line (access_word (take (first_blank t) t)) p t (first_blank t)) (key_line p t)
       (no_access (access_word (take (first_blank t) t)) (first_blank t)) k)
 
@@ -158,34 +152,34 @@ v_line p r =
 
 -- ---- one line
 -- what probing finds on a line that says so and is not refused
-abbrev pub probed_by : Said → Probed
-probed_by (Set (Is-as-Version v)) = Answer (within 1 3 v)
-probed_by (Set (Is-as-Cid x)) = Pass
-probed_by (Set (Is-as-ParentCid x)) = Pass
-probed_by (Set (Is-as-CreateType x)) = Pass
-probed_by (Set (Is-as-Sectors n)) = Pass
-probed_by (Set (Is-as-Heads n)) = Pass
-probed_by (Set (Is-as-Cylinders n)) = Pass
-probed_by Nothing = Pass
-probed_by (Extent x) = Pass
-probed_by (Refused n) = Pass
+abbrev pub probed_by : Result Said Fault → Option Bool
+probed_by (Ok (Set (Is-as-Version v))) = Some (within 1 3 v)
+probed_by (Ok (Set (Is-as-Cid x))) = None
+probed_by (Ok (Set (Is-as-ParentCid x))) = None
+probed_by (Ok (Set (Is-as-CreateType x))) = None
+probed_by (Ok (Set (Is-as-Sectors n))) = None
+probed_by (Ok (Set (Is-as-Heads n))) = None
+probed_by (Ok (Set (Is-as-Cylinders n))) = None
+probed_by (Ok Nothing) = None
+probed_by (Ok (Extent x)) = None
+probed_by (Err n) = None
 
-no_probed : (s : Said) → NoVersion s → Pass ≡ probed_by s
-no_probed (Set (Is-as-Version v)) h = absurd h
-no_probed (Set (Is-as-Cid x)) h = refl
-no_probed (Set (Is-as-ParentCid x)) h = refl
-no_probed (Set (Is-as-CreateType x)) h = refl
-no_probed (Set (Is-as-Sectors n)) h = refl
-no_probed (Set (Is-as-Heads n)) h = refl
-no_probed (Set (Is-as-Cylinders n)) h = refl
-no_probed Nothing h = refl
-no_probed (Extent x) h = refl
-no_probed (Refused n) h = refl
+no_probed : (s : Result Said Fault) → NoVersion s → None ≡ probed_by s
+no_probed (Ok (Set (Is-as-Version v))) h = absurd h
+no_probed (Ok (Set (Is-as-Cid x))) h = refl
+no_probed (Ok (Set (Is-as-ParentCid x))) h = refl
+no_probed (Ok (Set (Is-as-CreateType x))) h = refl
+no_probed (Ok (Set (Is-as-Sectors n))) h = refl
+no_probed (Ok (Set (Is-as-Heads n))) h = refl
+no_probed (Ok (Set (Is-as-Cylinders n))) h = refl
+no_probed (Ok Nothing) h = refl
+no_probed (Ok (Extent x)) h = refl
+no_probed (Err n) h = refl
 
-version_probed : (n : Num) → refuses (version_by n ∷ []) ≡ false → Answer (verdict_of n) ≡ probed_by (version_by n)
+version_probed : (n : Option ℕ) → refuses (version_by n ∷ []) ≡ false → Some (verdict_of n) ≡ probed_by (version_by n)
 unfolding refuses
-version_probed (Value v) h = refl
-version_probed Bad h = let z : ◌≡◌ {A = ℕ} 0 1 = cc in absurd (omega arith)
+version_probed (Some v) h = refl
+version_probed None h = let z : ◌≡◌ {A = ℕ} 0 1 = cc in absurd (omega arith)
 
 version_said : (p : ℕ) (v : List ℕ) → value_of Version p v ≡ version_by (number_of version_limit (trimmed v))
 unfolding value_of version_of
@@ -197,9 +191,9 @@ equals_blank = refl
 
 -- a text with its first `=` behind a
 module _ (t a r : List ℕ) (e : t ≡ a ++ 0x3D ∷ r) (n : count 0x3D a ≡ 0) where
-  equals_at : find_at 0x3D t 0 ≡ Here (length a)
+  equals_at : find_at 0x3D t 0 ≡ Some (length a)
   unfolding find_at
-  equals_at = let z : 0 + length a ≡ length a = omega arith in rw e (find_behind 0x3D 0 a r n ∙ ap Here z)
+  equals_at = let z : 0 + length a ≡ length a = omega arith in rw e (find_behind 0x3D 0 a r n ∙ ap Some z)
 
   before_equals : take (length a) t ≡ a
   before_equals = rw e (take-append_seam a (0x3D ∷ r))
@@ -211,17 +205,17 @@ module _ (t a r : List ℕ) (e : t ≡ a ++ 0x3D ∷ r) (n : count 0x3D a ≡ 0)
   unfolding key_line
   key_said p = rw (equals_at, before_equals, after_equals)
 
-  pub key_probed : probe_key t (find_at 0x3D t 0) ≡ pick (same (trimmed a) (ascii "version")) (Answer (verdict_of (number_of version_limit (trimmed r)))) Pass
+  pub key_probed : probe_key t (find_at 0x3D t 0) ≡ pick (same (trimmed a) (ascii "version")) (Some (verdict_of (number_of version_limit (trimmed r)))) None
   unfolding probe_key
   key_probed = rw (equals_at, before_equals, after_equals)
 
 -- a text without `=`
 module _ (t : List ℕ) (n : count 0x3D t ≡ 0) where
-  pub key_silent : (p : ℕ) → key_line p t ≡ Nothing
+  pub key_silent : (p : ℕ) → key_line p t ≡ (Ok Nothing)
   unfolding key_line find_at
   key_silent p = rw (find_none 0x3D 0 t n)
 
-  pub key_passed : probe_key t (find_at 0x3D t 0) ≡ Pass
+  pub key_passed : probe_key t (find_at 0x3D t 0) ≡ None
   unfolding probe_key find_at
   key_passed = rw (find_none 0x3D 0 t n)
 
@@ -267,7 +261,7 @@ module _ (p : ℕ) (l t : List ℕ) (c : Trimming l) (e : t ≡ encode_all c.mid
     same_value : trimmed (encode_all (ys ++ c.back)) ≡ trimmed (encode_all ys)
     same_value = trim_back ys c.back cut_scalars.1 c.blanks.1
 
-    probed : probe_key l (find_at 0x3D l 0) ≡ pick (same (trimmed (encode_all xs)) (ascii "version")) (Answer (verdict_of (number_of version_limit (trimmed (encode_all ys))))) Pass
+    probed : probe_key l (find_at 0x3D l 0) ≡ pick (same (trimmed (encode_all xs)) (ascii "version")) (Some (verdict_of (number_of version_limit (trimmed (encode_all ys))))) None
     probed = key_probed l (encode_all (c.front ++ xs)) (encode_all (ys ++ c.back)) cut_line cut_free ∙ rw (same_key, same_value)
 
     said : key_line p t ≡ value_of (key_of (trimmed (encode_all xs))) (p + (length (encode_all xs) + 1)) (encode_all ys)
@@ -282,7 +276,7 @@ module _ (p : ℕ) (l t : List ℕ) (c : Trimming l) (e : t ≡ encode_all c.mid
     -- with the key `version`
     with_version : same (trimmed (encode_all xs)) (ascii "version") ≡ true → By
     with_version k h =
-        let w : Num = number_of version_limit (trimmed (encode_all ys)) in
+        let w : Option ℕ = number_of version_limit (trimmed (encode_all ys)) in
         let f : trimmed (encode_all xs) ≡ ascii "version" = same_is (trimmed (encode_all xs)) (ascii "version") k in
         let g = first_byte xs (0x3D ∷ ys) (rw q at c.firm) cut_scalars.2 f in
         let v : t ≡ 0x76 ∷ g.0 = e ∙ ap encode_all q ∙ g.1 in
@@ -295,39 +289,39 @@ module _ (p : ℕ) (l t : List ℕ) (c : Trimming l) (e : t ≡ encode_all c.mid
   by_key : By
   by_key = cut_at 0x3D (omega arith) c.middle without with_key
 
-refuses_four : refuses (Refused 4 ∷ []) ≡ false → ⊥
+refuses_four : refuses (Err NotUtf8 ∷ []) ≡ false → ⊥
 unfolding refuses
 refuses_four h = let z : ◌≡◌ {A = ℕ} 0 1 = cc in omega arith
 
 -- each of some lines that are not refused
-pub refuses_apart : (s : Said) (ss : List Said) → refuses (s ∷ ss) ≡ false → (refuses (s ∷ []) ≡ false) × (refuses ss ≡ false)
+pub refuses_apart : (s : Result Said Fault) (ss : List (Result Said Fault)) → refuses (s ∷ ss) ≡ false → (refuses (s ∷ []) ≡ false) × (refuses ss ≡ false)
 unfolding refuses
-refuses_apart Nothing ss h = (refl, h)
-refuses_apart (Set v) ss h = (refl, h)
-refuses_apart (Extent x) ss h = (refl, h)
-refuses_apart (Refused n) ss h = let z : ◌≡◌ {A = ℕ} 0 1 = cc in absurd (omega arith)
+refuses_apart (Ok Nothing) ss h = (refl, h)
+refuses_apart (Ok (Set v)) ss h = (refl, h)
+refuses_apart (Ok (Extent x)) ss h = (refl, h)
+refuses_apart (Err n) ss h = let z : ◌≡◌ {A = ℕ} 0 1 = cc in absurd (omega arith)
 
 -- what probing finds on a line that is not refused
-line_probed : (p : ℕ) (l : List ℕ) (r : Trimmed) → trim_of l ≡ r → refuses (line_of p l ∷ []) ≡ false → probe_line l ≡ probed_by (line_of p l)
+line_probed : (p : ℕ) (l : List ℕ) (r : Option (ℕ × ℕ)) → trim_of l ≡ r → refuses (line_of p l ∷ []) ≡ false → probe_line l ≡ probed_by (line_of p l)
 unfolding line_of probe_line
-line_probed p l (Range a e) q h =
+line_probed p l (Some (a, e)) q h =
     let c = range_sound l q in
     rw q (by_key (p + a) l (part l a e) c (range_is l q ∙ c.left) (rw q at h))
-line_probed p l Wrong q h = absurd (refuses_four (rw q at h))
+line_probed p l None q h = absurd (refuses_four (rw q at h))
 
 -- ---- line by line
-first_said : (s : Said) (ss : List Said) → first_answer (probed_by s) (within 1 3 (first_version ss)) ≡ within 1 3 (first_version (s ∷ ss))
+first_said : (s : Result Said Fault) (ss : List (Result Said Fault)) → first_answer (probed_by s) (within 1 3 (first_version ss)) ≡ within 1 3 (first_version (s ∷ ss))
 unfolding first_version
-first_said (Set (Is-as-Version v)) ss = refl
-first_said (Set (Is-as-Cid x)) ss = refl
-first_said (Set (Is-as-ParentCid x)) ss = refl
-first_said (Set (Is-as-CreateType x)) ss = refl
-first_said (Set (Is-as-Sectors n)) ss = refl
-first_said (Set (Is-as-Heads n)) ss = refl
-first_said (Set (Is-as-Cylinders n)) ss = refl
-first_said Nothing ss = refl
-first_said (Extent x) ss = refl
-first_said (Refused n) ss = refl
+first_said (Ok (Set (Is-as-Version v))) ss = refl
+first_said (Ok (Set (Is-as-Cid x))) ss = refl
+first_said (Ok (Set (Is-as-ParentCid x))) ss = refl
+first_said (Ok (Set (Is-as-CreateType x))) ss = refl
+first_said (Ok (Set (Is-as-Sectors n))) ss = refl
+first_said (Ok (Set (Is-as-Heads n))) ss = refl
+first_said (Ok (Set (Is-as-Cylinders n))) ss = refl
+first_said (Ok Nothing) ss = refl
+first_said (Ok (Extent x)) ss = refl
+first_said (Err n) ss = refl
 
 none_said : false ≡ within 1 3 (first_version [])
 unfolding first_version
@@ -338,7 +332,7 @@ lines_probed : (p : ℕ) (ls : List (List ℕ)) → refuses (sayings p ls) ≡ f
 unfolding probe_lines sayings
 lines_probed p [] h = none_said
 lines_probed p (l ∷ ls) h =
-    let ss : List Said = sayings (p + length l + 1) ls in
+    let ss : List (Result Said Fault) = sayings (p + length l + 1) ls in
     let k = refuses_apart (line_of p l) ss h in
     rw (line_probed p l (trim_of l) refl k.0, lines_probed (p + length l + 1) ls k.1) (first_said (line_of p l) ss)
 
@@ -350,45 +344,45 @@ probe_first t b h =
 
 -- ---- with reading
 -- the version after some lines is the last that they say
-pub version_set : (d : VmdkDesc) (ss : List Said) → (set_all d ss).version ≡ version_after d.version ss
+pub version_set : (d : VmdkDesc) (ss : List (Result Said Fault)) → (set_all d ss).version ≡ version_after d.version ss
 unfolding set_all set_of version_after
 version_set d [] = refl
-version_set d (Set (Is-as-Version v) ∷ ss) = version_set (set_of d (Is-as-Version v)) ss
-version_set d (Set (Is-as-Cid x) ∷ ss) = version_set (set_of d (Is-as-Cid x)) ss
-version_set d (Set (Is-as-ParentCid x) ∷ ss) = version_set (set_of d (Is-as-ParentCid x)) ss
-version_set d (Set (Is-as-CreateType x) ∷ ss) = version_set (set_of d (Is-as-CreateType x)) ss
-version_set d (Set (Is-as-Sectors n) ∷ ss) = version_set (set_of d (Is-as-Sectors n)) ss
-version_set d (Set (Is-as-Heads n) ∷ ss) = version_set (set_of d (Is-as-Heads n)) ss
-version_set d (Set (Is-as-Cylinders n) ∷ ss) = version_set (set_of d (Is-as-Cylinders n)) ss
-version_set d (Nothing ∷ ss) = version_set d ss
-version_set d (Extent x ∷ ss) = version_set d ss
-version_set d (Refused n ∷ ss) = version_set d ss
+version_set d (Ok (Set (Is-as-Version v)) ∷ ss) = version_set (set_of d (Is-as-Version v)) ss
+version_set d (Ok (Set (Is-as-Cid x)) ∷ ss) = version_set (set_of d (Is-as-Cid x)) ss
+version_set d (Ok (Set (Is-as-ParentCid x)) ∷ ss) = version_set (set_of d (Is-as-ParentCid x)) ss
+version_set d (Ok (Set (Is-as-CreateType x)) ∷ ss) = version_set (set_of d (Is-as-CreateType x)) ss
+version_set d (Ok (Set (Is-as-Sectors n)) ∷ ss) = version_set (set_of d (Is-as-Sectors n)) ss
+version_set d (Ok (Set (Is-as-Heads n)) ∷ ss) = version_set (set_of d (Is-as-Heads n)) ss
+version_set d (Ok (Set (Is-as-Cylinders n)) ∷ ss) = version_set (set_of d (Is-as-Cylinders n)) ss
+version_set d ((Ok Nothing) ∷ ss) = version_set d ss
+version_set d (Ok (Extent x) ∷ ss) = version_set d ss
+version_set d (Err n ∷ ss) = version_set d ss
 
 -- after the lines 17 is answered, with 0, exactly if the version is not 1 to 3
-version_checked : (d : VmdkDesc) (xs : List ReadExtent) (k : ℕ) → ((checked d xs).verdict ≡ refusal 17 k) ↔ ((within 1 3 d.version ≡ false) × (k ≡ 0))
+version_checked : (d : VmdkDesc) (xs : List ReadExtent) (k : ℕ) → ((checked d xs).verdict ≡ refusal OtherVersion k) ↔ ((within 1 3 d.version ≡ false) × (k ≡ 0))
 unfolding checked
 version_checked d xs k = (
   λ h. by_test (within 1 3 d.version)
-      (λ e. let g : sizes_from 0 xs ≡ refusal 17 k = sym (from_answer (sizes_from 0 xs) d xs) ∙ (rw e at h) in
+      (λ e. let g : sizes_from 0 xs ≡ refusal OtherVersion k = sym (from_answer (sizes_from 0 xs) d xs) ∙ (rw e at h) in
       let f : 18 ≤ 17 = subst (From 18) g (from_sizes 0 xs) in
       absurd (omega arith))
-      (λ e. (e, sym (never 17 k 17 0 (rw e at h)).1)),
+      (λ e. (e, sym (never OtherVersion k OtherVersion 0 (rw e at h)).1)),
   λ w. rw (w.0, w.1),
 )
 
 module _ (t : List ℕ) where
   -- an accepted descriptor is probed by its first version
-  pub probe_accepted : (read_of t).verdict ≡ Sound → probe_of t ≡ within 1 3 (first_version (sayings_of t))
+  pub probe_accepted : (read_of t).verdict ≡ (Ok tt) → probe_of t ≡ within 1 3 (first_version (sayings_of t))
   probe_accepted h = let a = accepted_lines t h in probe_first t a.0 a.1.0
 
   -- and its last version is 1 to 3
-  pub last_accepted : (read_of t).verdict ≡ Sound → within 1 3 (last_version (sayings_of t)) ≡ true
+  pub last_accepted : (read_of t).verdict ≡ (Ok tt) → within 1 3 (last_version (sayings_of t)) ≡ true
   last_accepted h = rw (version_set no_desc (sayings_of t)) at (accepted_checked t h).0
 
   -- 17 is answered, with 0, exactly if every line is sound and the last version is not 1 to 3
-  pub last_refused : (k : ℕ) → ((read_of t).verdict ≡ refusal 17 k) ↔ (ByLine t × AllSound (sayings_of t) × (within 1 3 (last_version (sayings_of t)) ≡ false) × (k ≡ 0))
+  pub last_refused : (k : ℕ) → ((read_of t).verdict ≡ refusal OtherVersion k) ↔ (ByLine t × AllSound (sayings_of t) × (within 1 3 (last_version (sayings_of t)) ≡ false) × (k ≡ 0))
   last_refused k = (
-    λ h. let b = late t 17 k (omega arith) h in
+    λ h. let b = late t OtherVersion k (omega arith) h in
         let f : 17 ≤ 17 = omega arith in
         let a = lines_sound t b (subst (From 17) (sym h) f) in
         let q = ap (λ (x : Read). x.verdict) (sym (lines_checked t b a)) ∙ h in
@@ -399,7 +393,7 @@ module _ (t : List ℕ) where
   )
 
   -- 17, where probing says yes
-  pub probe_refused : (((read_of t).verdict ≡ refusal 17 0) × (probe_of t ≡ true)) ↔ (ByLine t × AllSound (sayings_of t) × (within 1 3 (first_version (sayings_of t)) ≡ true) × (within 1 3 (last_version (sayings_of t)) ≡ false))
+  pub probe_refused : (((read_of t).verdict ≡ refusal OtherVersion 0) × (probe_of t ≡ true)) ↔ (ByLine t × AllSound (sayings_of t) × (within 1 3 (first_version (sayings_of t)) ≡ true) × (within 1 3 (last_version (sayings_of t)) ≡ false))
   probe_refused = (
     λ w. let a = (last_refused 0).0 w.0 in (a.0, a.1, sym (probe_first t a.0 a.1.0) ∙ w.1, a.2),
     λ w. ((last_refused 0).1 (w.0, w.1, w.3, refl), probe_first t w.0 w.1.0 ∙ w.2),

@@ -1,6 +1,7 @@
 -- A line is as long as its words, with one byte more for each; a number has at most 20 digits.
 -- So each line of an answer has at most so many bytes, and its name.
 -- Assumes nothing.
+use Rattle.std.specs.Prelude.{Err, Ok, Result}
 use Prim.Native.Nat.{ℕ, suc, ◌+◌, ◌≤◌}
 use native.Mathlib.Omega.{arith}
 use mathlib.Core.List.{List, [], ◌∷◌}
@@ -17,12 +18,14 @@ use Rattle.tables.specs.declared.table.Row.{Row}
 use Rattle.tables.specs.declared.table.Piece.{Piece}
 use Rattle.tables.specs.declared.table.PieceSource.{PieceSource}
 use Rattle.tables.specs.declared.table.PieceSource.TheVariants.{Zero as Zeros, Raw as File}
-use Rattle.tables.specs.declared.table.Stop.{Stop}
-use Rattle.tables.specs.declared.table.Stop.TheVariants.{Done, More, Refused as Stopped}
+use Rattle.tables.specs.declared.table.Stop.TheVariants.{Done, More}
 use Rattle.tables.specs.declared.table.Walked.{Walked}
 use Rattle.tables.specs.declared.table.Mapping.{Mapping}
+use Rattle.tables.specs.declared.table.ShallowMapping.TheVariants.{Eof, Zero as Zeroed, Raw}
 use Rattle.tables.specs.declared.table.ShallowMapping.{ShallowMapping}
-use Rattle.tables.specs.declared.table.ShallowMapping.TheVariants.{Eof, Zero as Zeroed, Raw, Refused}
+use Rattle.tables.specs.declared.table.Stop.{Stop}
+use Rattle.lines.specs.declared.record.Fault.{Fault}
+use Rattle.lines.specs.Fault.{refusal_number}
 use Rattle.phrases.specs.Line.{spaced, ended, field, line, name_of, source_at, access_word, mode_word, refused_line}
 use Rattle.disk_lines.specs.Report.{probe_line, source_words, row_line, head_lines}
 use Rattle.map_lines.specs.Map.{mapping_line, mapping_words}
@@ -55,7 +58,7 @@ unfolding probe_line
 probe_short true = rw line_long (omega arith)
 probe_short false = rw line_long (omega arith)
 
-pub refused_short : (x : Refusal) → x.number ≤ largest → x.second ≤ largest → length (refused_line x) ≤ 50
+pub refused_short : (x : Refusal) → refusal_number x.fault ≤ largest → x.second ≤ largest → length (refused_line x) ≤ 50
 unfolding refused_line
 refused_short x h g = rw line_long (omega (arith, decimal_short _ h, decimal_short _ g))
 
@@ -82,25 +85,25 @@ row_short d i r h g k s =
 
 -- ---- a mapping
 -- the numbers of a mapping that gives a run are of 64 bits, and so is a refusal's
-abbrev pub Shows : ShallowMapping → ℕ → Type 0
-Shows Eof run = Unit {0}
-Shows (Zeroed i) run = (run ≤ largest) × (i ≤ largest)
-Shows (Raw i o w) run = (run ≤ largest) × (i ≤ largest) × (o ≤ largest)
-Shows (Refused k) run = k ≤ largest
+abbrev pub Shows : Result ShallowMapping Fault → ℕ → Type 0
+Shows (Ok Eof) run = Unit {0}
+Shows (Ok (Zeroed i)) run = (run ≤ largest) × (i ≤ largest)
+Shows (Ok (Raw i o w)) run = (run ≤ largest) × (i ≤ largest) × (o ≤ largest)
+Shows (Err k) run = refusal_number k ≤ largest
 
 -- how many bytes the name has that stands in its line
-abbrev pub shown_name : List ℕ → List Row → ShallowMapping → ℕ
-shown_name d rows Eof = 0
-shown_name d rows (Zeroed i) = 0
-shown_name d rows (Raw i o w) = length (name_of d (source_at rows i))
-shown_name d rows (Refused k) = 0
+abbrev pub shown_name : List ℕ → List Row → Result ShallowMapping Fault → ℕ
+shown_name d rows (Ok Eof) = 0
+shown_name d rows (Ok (Zeroed i)) = 0
+shown_name d rows (Ok (Raw i o w)) = length (name_of d (source_at rows i))
+shown_name d rows (Err k) = 0
 
-words_shown : (d : List ℕ) (rows : List Row) (run n : ℕ) (m : ShallowMapping) → n ≤ largest → Shows m run → length (line (mapping_words d rows run n m)) ≤ 111 + shown_name d rows m
-words_shown d rows run n Eof g k = rw line_long (omega (arith, decimal_short _ g))
-words_shown d rows run n (Zeroed i) g k = rw line_long (omega (arith, decimal_short _ g, decimal_short _ k.0, decimal_short _ k.1))
-words_shown d rows run n (Raw i o w) g k =
+words_shown : (d : List ℕ) (rows : List Row) (run n : ℕ) (m : Result ShallowMapping Fault) → n ≤ largest → Shows m run → length (line (mapping_words d rows run n m)) ≤ 111 + shown_name d rows m
+words_shown d rows run n (Ok Eof) g k = rw line_long (omega (arith, decimal_short _ g))
+words_shown d rows run n (Ok (Zeroed i)) g k = rw line_long (omega (arith, decimal_short _ g, decimal_short _ k.0, decimal_short _ k.1))
+words_shown d rows run n (Ok (Raw i o w)) g k =
     rw line_long (omega (arith, decimal_short _ g, decimal_short _ k.0, decimal_short _ k.1, decimal_short _ k.2, mode_short w))
-words_shown d rows run n (Refused e) g k = rw line_long (omega (arith, decimal_short _ g, decimal_short _ k))
+words_shown d rows run n (Err e) g k = rw line_long (omega (arith, decimal_short _ g, decimal_short _ k))
 
 pub mapping_short : (d : List ℕ) (rows : List Row) (m : Mapping) → m.looked ≤ largest → Shows m.mapping m.run → length (mapping_line d rows m) ≤ 111 + shown_name d rows m.mapping
 mapping_short d rows m g k = words_shown d rows m.run m.looked m.mapping g k
@@ -123,16 +126,16 @@ piece_short d rows k p h =
     rw line_long (omega (arith, decimal_short _ h.start, decimal_short _ h.run, words_short d (source_at rows p.row) p p.source h))
 
 -- a refusal's number is of 64 bits
-abbrev pub Stops : Stop → Type 0
-Stops Done = Unit {0}
-Stops More = Unit {0}
-Stops (Stopped k) = k ≤ largest
+abbrev pub Stops : Result Stop Fault → Type 0
+Stops (Ok Done) = Unit {0}
+Stops (Ok More) = Unit {0}
+Stops (Err k) = refusal_number k ≤ largest
 
-stop_text_short : (s : Stop) → Stops s → length (stop_text s) ≤ 34
+stop_text_short : (s : Result Stop Fault) → Stops s → length (stop_text s) ≤ 34
 unfolding spaced field
-stop_text_short Done h = simp length-append (omega arith)
-stop_text_short More h = simp length-append (omega arith)
-stop_text_short (Stopped k) h = simp length-append (omega (arith, decimal_short _ h))
+stop_text_short (Ok Done) h = simp length-append (omega arith)
+stop_text_short (Ok More) h = simp length-append (omega arith)
+stop_text_short (Err k) h = simp length-append (omega (arith, decimal_short _ h))
 
 pub stop_short : (w : Walked) → Stops w.stop → w.position ≤ largest → w.count ≤ largest → w.looked ≤ largest → length (stop_line w) ≤ 111
 unfolding stop_line

@@ -1,9 +1,9 @@
 -- Memory that is lent again: a descriptor read into a record, and built from it into a table, in whatever state the two were; and what is left there.
-use Rattle.std.specs.Prelude.{ℕ, ◌<◌, ◌≤◌, List, [], ◌⊎◌, ◌≡◌, length, take, get_or}
+use Rattle.std.specs.Prelude.{ℕ, ◌<◌, ◌≤◌, List, [], ◌⊎◌, ◌≡◌, length, take, get_or, Err, Ok}
 use Rattle.lines.specs.Record.{most, no_desc, read_in}
 use Rattle.lines.specs.declared.record.Record.{Record}
 use Rattle.lines.specs.declared.record.Refusal.{Refusal}
-use Rattle.lines.specs.declared.record.Verdict.TheVariants.{Sound, Refused}
+use Rattle.lines.specs.declared.record.Fault.{Fault}
 use Rattle.descriptor.specs.Read.{read_of}
 use Rattle.descriptor.specs.Into.{stored_of, read_into}
 use Rattle.tables.specs.declared.table.Stop.TheVariants.{Done}
@@ -30,7 +30,7 @@ pub record NoDisk (t : Table) : Type 0 where
   pub count : t.count ≡ 0
   pub size : t.size.0 ≡ 0
   pub maps : (o asked : ℕ) → map_of t o asked ≡ ended 0
-  pub walks : (places start long : ℕ) → walk_of t places start long ≡ ends Done start 0
+  pub walks : (places start long : ℕ) → walk_of t places start long ≡ ends (Ok Done) start 0
 
 -- What a caller has in hand depends on the descriptor alone: nothing of an earlier reel can shine through. Nothing is asked of the record and the table
 -- that are lent, not even that they have `most` places, as every value of these types has.
@@ -43,16 +43,16 @@ pub record LentAgain (d : List ℕ) (r : Record) (t : Table) : Type 0 where
   -- the table in hand has the size, the count and the rows of the descriptor alone, with their lines
   pub table : SameTable (in_hand d r t) (fresh d)
   -- where the descriptor reads and builds, row i of it is the i-th line that says an extent
-  pub lines : (read_of d).verdict ≡ Sound → (build_of (read_into d r)).verdict ≡ Sound → (i : ℕ) → i < (in_hand d r t).count → FromLine d (in_hand d r t) i
+  pub lines : (read_of d).verdict ≡ (Ok tt) → (build_of (read_into d r)).verdict ≡ (Ok tt) → (i : ℕ) → i < (in_hand d r t).count → FromLine d (in_hand d r t) i
   -- every mapping and every walk is that of the descriptor alone
   pub maps : (o asked : ℕ) → map_of (in_hand d r t) o asked ≡ map_of (fresh d) o asked
   pub walks : (places start long : ℕ) → walk_of (in_hand d r t) places start long ≡ walk_of (fresh d) places start long
   -- where the descriptor reads and builds, mapping gives each byte the place that the descriptor's own lines give it
-  pub bytes : (read_of d).verdict ≡ Sound → (build_of (read_into d r)).verdict ≡ Sound → (o asked : ℕ) → MapsNamed d (in_hand d r t) o asked
+  pub bytes : (read_of d).verdict ≡ (Ok tt) → (build_of (read_into d r)).verdict ≡ (Ok tt) → (o asked : ℕ) → MapsNamed d (in_hand d r t) o asked
   -- and a walk over any range tiles it, each byte of each piece at the place that the descriptor's own lines give it
-  pub pieces : (read_of d).verdict ≡ Sound → (build_of (read_into d r)).verdict ≡ Sound → Reachable (extents_in (sayings_of d)) → (places start long : ℕ) → most ≤ places → TilesNamed d (in_hand d r t) start long (walk_of (in_hand d r t) places start long)
+  pub pieces : (read_of d).verdict ≡ (Ok tt) → (build_of (read_into d r)).verdict ≡ (Ok tt) → Reachable (extents_in (sayings_of d)) → (places start long : ℕ) → most ≤ places → TilesNamed d (in_hand d r t) start long (walk_of (in_hand d r t) places start long)
   -- where it is refused, by reading or by building, the table in hand is one of nothing
-  pub nothing : (x : Refusal) → ((read_of d).verdict ≡ Refused x) ⊎ ((build_of (read_into d r)).verdict ≡ Refused x) → NoDisk (in_hand d r t)
+  pub nothing : (x : Refusal) → ((read_of d).verdict ≡ Err x) ⊎ ((build_of (read_into d r)).verdict ≡ Err x) → NoDisk (in_hand d r t)
 
 -- A table that a record, read or made by hand, is built into, in whatever state it was, is of the disk that the record alone builds: every mapping and every walk is that disk's.
 pub record BuiltAgain (r : Record) (t : Table) : Type 0 where
@@ -73,17 +73,17 @@ pub record ReadLeaves (d : List ℕ) (r : Record) : Type 0 where
   -- where every line is sound, those of all lines
   pub whole : ByLine d → AllSound (sayings_of d) → stored_of d ≡ read_from 1 (sayings_of d)
   -- where a line is refused, those of the lines before it
-  pub before : (l : List ℕ) (n k : ℕ) → ByLine d → (f : FirstRefused d l n k) → stored_of d ≡ read_from 1 (sayings 0 f.before)
+  pub before : (l : List ℕ) (n : Fault) (k : ℕ) → ByLine d → (f : FirstRefused d l n k) → stored_of d ≡ read_from 1 (sayings 0 f.before)
   -- where no line is read, none
   pub none : (ByLine d → ⊥) → stored_of d ≡ []
   -- all of them are counted; of a refused descriptor none, and its values are the start values
-  pub sound : (read_of d).verdict ≡ Sound → (read_into d r).count ≡ length (stored_of d)
-  pub refused : (x : Refusal) → (read_of d).verdict ≡ Refused x → ((read_into d r).count ≡ 0) × ((read_into d r).desc ≡ no_desc)
+  pub sound : (read_of d).verdict ≡ (Ok tt) → (read_into d r).count ≡ length (stored_of d)
+  pub refused : (x : Refusal) → (read_of d).verdict ≡ Err x → ((read_into d r).count ≡ 0) × ((read_into d r).desc ≡ no_desc)
 
 -- What building from a record leaves in a table.
 pub record BuildLeaves (r : Record) (t : Table) : Type 0 where
   -- the rows of all extents, or of those before the refused one, are stored
   pub places : length t.rows ≡ most → Stored t.rows (stored_rows r) (build_into r t).rows
   -- all of them are counted; of a refused build none, and the size is 0
-  pub sound : (build_of r).verdict ≡ Sound → (build_into r t).count ≡ length (stored_rows r)
-  pub refused : (x : Refusal) → (build_of r).verdict ≡ Refused x → ((build_into r t).count ≡ 0) × ((build_into r t).size.0 ≡ 0)
+  pub sound : (build_of r).verdict ≡ (Ok tt) → (build_into r t).count ≡ length (stored_rows r)
+  pub refused : (x : Refusal) → (build_of r).verdict ≡ Err x → ((build_into r t).count ≡ 0) × ((build_into r t).size.0 ≡ 0)

@@ -1,12 +1,11 @@
 -- The words of a line: those of an extent line, in their order, and the key and the value of any other.
-use Rattle.std.specs.Prelude.{ℕ, ◌+◌, ◌<◌, List, ◌∷◌, ◌++◌, ◌⊎◌, false, ◌≡◌, length, take}
+use Rattle.std.specs.Prelude.{ℕ, ◌+◌, ◌<◌, List, ◌∷◌, ◌++◌, ◌⊎◌, false, ◌≡◌, length, take, Some}
 use Rattle.text.specs.Ascii.{ascii}
 use Rattle.text.specs.Find.{begins, strip_of, part_of}
 use Rattle.text.specs.Lines.{count}
 use Rattle.text.specs.Text.{trimmed}
 use Rattle.text.specs.Sector.{sectors_of}
 use Rattle.text.specs.declared.sector.Sectors.{Sectors}
-use Rattle.text.specs.declared.sector.SectorCount.TheVariants.{Count}
 use Rattle.keys.specs.declared.key.Geometry.{Geometry}
 use Rattle.keys.specs.declared.key.Geometry.TheVariants.{Sectors as Geometry-as-Sectors, Heads, Cylinders}
 use Rattle.lines.specs.Kept.{kept_of}
@@ -31,7 +30,7 @@ pub record AccessLine (t access second : List ℕ) (end : ℕ) : Type 0 where
 pub record CountedLine (t : List ℕ) (a : VmdkAccessType) (s : Sectors) (end : ℕ) : Type 0 where
   pub second : List ℕ
   pub line : AccessLine t (access_text a) second end
-  pub sectors : sectors_of second ≡ Count s
+  pub sectors : sectors_of second ≡ Some s
 
 -- the same, and its third word is FLAT
 pub record FlatLine (t : List ℕ) (a : VmdkAccessType) (s : Sectors) : Type 0 where

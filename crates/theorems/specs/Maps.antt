@@ -1,11 +1,13 @@
 -- What mapping answers, told by the place that the extents give to the offset and by the sums of their sizes alone.
-use Rattle.std.specs.Prelude.{ℕ, ◌-◌, ◌≤◌, min, List, [], ◌∷◌, ◌≡◌, ◌↔◌, leb, ltb}
+use Rattle.std.specs.Prelude.{ℕ, ◌-◌, ◌≤◌, min, List, [], ◌∷◌, ◌≡◌, ◌↔◌, leb, ltb, Err, Ok, Result}
 use Rattle.text.specs.Ranges.{pick}
 use Rattle.text.specs.Sector.{largest}
 use Rattle.lines.specs.declared.record.VmdkParsedExtent.{VmdkParsedExtent}
 use Rattle.tables.specs.declared.table.Table.{Table}
+use Rattle.tables.specs.declared.table.ShallowMapping.TheVariants.{Eof, Zero, Raw}
 use Rattle.tables.specs.declared.table.ShallowMapping.{ShallowMapping}
-use Rattle.tables.specs.declared.table.ShallowMapping.TheVariants.{Eof, Zero, Raw, Refused}
+use Rattle.lines.specs.declared.record.Fault.{Fault}
+use Rattle.lines.specs.declared.record.Fault.TheVariants.{Inaccessible, OffsetTooLarge}
 use Rattle.maps.specs.Map.{map_of}
 use Rattle.maps.specs.Place.{Place, past, locked, zeros, file, bytes_in, size_of, place_of}
 
@@ -15,11 +17,11 @@ rest_of [] o = 0
 rest_of (x ∷ xs) o = pick (ltb o (bytes_in x)) (bytes_in x - o) (rest_of xs (o - bytes_in x))
 
 -- what mapping says of a place: 21 for no access, and 22 where the file offset is above 2^64-1
-abbrev pub shown : Place → ShallowMapping
-shown past = Eof
-shown (locked i) = Refused 21
-shown (zeros i) = Zero i
-shown (file i f w) = pick (leb f largest) (Raw i f w) (Refused 22)
+abbrev pub shown : Place → Result ShallowMapping Fault
+shown past = (Ok Eof)
+shown (locked i) = Err Inaccessible
+shown (zeros i) = Ok (Zero i)
+shown (file i f w) = pick (leb f largest) (Ok (Raw i f w)) (Err OffsetTooLarge)
 
 -- the run there, of so many bytes: 0 at the end and on a refusal
 abbrev pub run_at : Place → ℕ → ℕ

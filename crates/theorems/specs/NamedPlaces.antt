@@ -1,13 +1,12 @@
 -- The rows of a table, and the bytes of the disk, with the name of their file as it stands in the descriptor's own lines.
-use Rattle.std.specs.Prelude.{ℕ, ◌+◌, ◌-◌, ◌*◌, ◌<◌, ◌≤◌, min, List, [], ◌∷◌, Bool, ◌≡◌, ◌↔◌, length, eqb, leb, ltb}
+use Rattle.std.specs.Prelude.{ℕ, ◌+◌, ◌-◌, ◌*◌, ◌<◌, ◌≤◌, min, List, [], ◌∷◌, Bool, ◌≡◌, ◌↔◌, length, eqb, leb, ltb, Err, Ok, Result}
 use Rattle.text.specs.Ranges.{pick}
 use Rattle.text.specs.Text.{trimmed}
 use Rattle.text.specs.Lines.{lines_of}
 use Rattle.text.specs.Sector.{sector_size, largest}
 use Rattle.text.specs.declared.sector.Bytes.{Bytes}
 use Rattle.lines.specs.Line.{line_of}
-use Rattle.lines.specs.declared.line.Said.{Said}
-use Rattle.lines.specs.declared.line.Said.TheVariants.{Nothing, Extent, Set, Refused as LineRefused}
+use Rattle.lines.specs.declared.line.Said.TheVariants.{Nothing, Extent, Set}
 use Rattle.lines.specs.declared.record.Record.{Record}
 use Rattle.lines.specs.declared.record.Text.{Text}
 use Rattle.lines.specs.declared.record.VmdkAccessType.{VmdkAccessType}
@@ -20,8 +19,11 @@ use Rattle.tables.specs.declared.table.Table.{Table}
 use Rattle.tables.specs.declared.table.Piece.{Piece}
 use Rattle.tables.specs.declared.table.PieceSource.{PieceSource}
 use Rattle.tables.specs.declared.table.PieceSource.TheVariants.{Zero as ZeroPiece, Raw as RawPiece}
+use Rattle.tables.specs.declared.table.ShallowMapping.TheVariants.{Eof, Zero as ZeroAt, Raw}
+use Rattle.lines.specs.declared.line.Said.{Said}
 use Rattle.tables.specs.declared.table.ShallowMapping.{ShallowMapping}
-use Rattle.tables.specs.declared.table.ShallowMapping.TheVariants.{Eof, Zero as ZeroAt, Raw, Refused}
+use Rattle.lines.specs.declared.record.Fault.{Fault}
+use Rattle.lines.specs.declared.record.Fault.TheVariants.{Inaccessible, OffsetTooLarge}
 use Rattle.maps.specs.Map.{writable, map_of}
 use Rattle.maps.specs.Place.{bytes_in, size_of, place_of}
 use Rattle.maps.specs.Walk.{Walk}
@@ -55,7 +57,7 @@ pub record ExtentFrom (d : List ℕ) (r : Record) (i : ℕ) : Type 0 where
   pub there : LineAt d before line place number
   -- exactly i extents are said before it
   pub nth : i ≡ length (extents_in (sayings 0 before))
-  pub says : line_of place line ≡ Extent (extent_at r i)
+  pub says : line_of place line ≡ Ok (Extent (extent_at r i))
   pub lined : line_at r i ≡ number
 
 -- Row i is the i-th line, counted from 0, of those that say an extent.
@@ -70,7 +72,7 @@ pub record FromLine (d : List ℕ) (t : Table) (i : ℕ) : Type 0 where
   pub nth : length (extents_in (sayings 0 before)) ≡ i
   -- it says an extent, each word with the extent's value
   pub extent : VmdkParsedExtent
-  pub says : line_of place line ≡ Extent extent
+  pub says : line_of place line ≡ Ok (Extent extent)
   pub words : ExtentIn d (trimmed line) extent
   -- the row has that line's number, is as long as that extent, and has its source
   pub lined : (row_at t i).line ≡ number
@@ -79,7 +81,7 @@ pub record FromLine (d : List ℕ) (t : Table) (i : ℕ) : Type 0 where
   -- where it is flat, its name is, in the descriptor, the trimmed text between the line's first two `"`
   pub named : (a : VmdkAccessType) (start : Bytes) (name : Text) → (row_at t i).source ≡ File a start name → text_in d name ≡ trimmed (in_quotes line)
   -- no other line says an extent after exactly i extents
-  pub only : (before' : List (List ℕ)) (l : List ℕ) (p k : ℕ) (x : VmdkParsedExtent) → LineAt d before' l p k → line_of p l ≡ Extent x → length (extents_in (sayings 0 before')) ≡ i → k ≡ number
+  pub only : (before' : List (List ℕ)) (l : List ℕ) (p k : ℕ) (x : VmdkParsedExtent) → LineAt d before' l p k → line_of p l ≡ Ok (Extent x) → length (extents_in (sayings 0 before')) ≡ i → k ≡ number
 
 -- ---- the place that the lines give to a byte
 -- where a byte of the disk lies: past the end, without access, among zeros, or in the file with this name at this offset, writable or not
@@ -96,11 +98,11 @@ byte_by l (Zero a) o = zeros
 byte_by l (Flat a name start) o = file (trimmed (in_quotes l)) (start.0 * sector_size + o) (writable a)
 
 -- byte o by a line that says so: in its extent, or, with the extent's bytes taken off, by the lines after it
-abbrev pub byte_from : List ℕ → Said → ℕ → (ℕ → NamedPlace) → NamedPlace
-byte_from l (Extent x) o after = pick (ltb o (bytes_in x)) (byte_by l x.storage o) (after (o - bytes_in x))
-byte_from l Nothing o after = after o
-byte_from l (Set v) o after = after o
-byte_from l (LineRefused n) o after = after o
+abbrev pub byte_from : List ℕ → Result Said Fault → ℕ → (ℕ → NamedPlace) → NamedPlace
+byte_from l (Ok (Extent x)) o after = pick (ltb o (bytes_in x)) (byte_by l x.storage o) (after (o - bytes_in x))
+byte_from l (Ok Nothing) o after = after o
+byte_from l (Ok (Set v)) o after = after o
+byte_from l (Err n) o after = after o
 
 -- byte o by some lines, the first of which lies at the place p of the descriptor
 unfoldable pub place_by : ℕ → List (List ℕ) → ℕ → NamedPlace
@@ -122,24 +124,24 @@ name_of d (File a start name) = text_in d name
 abbrev pub name_at : List ℕ → Table → ℕ → List ℕ
 name_at d t i = name_of d (row_at t i).source
 
--- what a mapping shows: a place, or a refusal's number
+-- what a mapping shows: a place, or a refusal
 pub data Seen : Type 0 where
   at : NamedPlace → Seen
-  refused : ℕ → Seen
+  refused : Fault → Seen
 
 -- what a mapping shows a caller who reads the row's name
-abbrev pub seen_by : List ℕ → Table → ShallowMapping → Seen
-seen_by d t Eof = at past
-seen_by d t (ZeroAt i) = at zeros
-seen_by d t (Raw i f w) = at (file (name_at d t i) f w)
-seen_by d t (Refused n) = refused n
+abbrev pub seen_by : List ℕ → Table → Result ShallowMapping Fault → Seen
+seen_by d t (Ok Eof) = at past
+seen_by d t (Ok (ZeroAt i)) = at zeros
+seen_by d t (Ok (Raw i f w)) = at (file (name_at d t i) f w)
+seen_by d t (Err f) = refused f
 
 -- what is due at a place: 21 for no access, and 22 where the file offset is above 2^64-1
 abbrev pub due_at : NamedPlace → Seen
 due_at past = at past
-due_at locked = refused 21
+due_at locked = refused Inaccessible
 due_at zeros = at zeros
-due_at (file name f w) = pick (leb f largest) (at (file name f w)) (refused 22)
+due_at (file name f w) = pick (leb f largest) (at (file name f w)) (refused OffsetTooLarge)
 
 -- a byte in a file, at an offset above 2^64-1
 abbrev pub TooFar : NamedPlace → Type 0
@@ -157,8 +159,8 @@ pub record MapsNamed (d : List ℕ) (t : Table) (o asked : ℕ) : Type 0 where
   -- kind, name, file offset and writable; 21 and 22 where they are due
   pub shows : seen_by d t (map_of t o asked).mapping ≡ due_at (place_in d o)
   -- 21 exactly for no access, and 22 exactly for a file offset above 2^64-1
-  pub no_access : (map_of t o asked).mapping ≡ Refused 21 ↔ place_in d o ≡ locked
-  pub too_far : (map_of t o asked).mapping ≡ Refused 22 ↔ TooFar (place_in d o)
+  pub no_access : (map_of t o asked).mapping ≡ Err Inaccessible ↔ place_in d o ≡ locked
+  pub too_far : (map_of t o asked).mapping ≡ Err OffsetTooLarge ↔ TooFar (place_in d o)
   -- the place is past the end exactly at or past the sum of the extents' sizes
   pub end : place_in d o ≡ past ↔ size_of (extents_in (sayings_of d)) ≤ o
   -- the run is the least of the length asked and what is left of the extent

@@ -1,5 +1,5 @@
 -- Sizes, sums and file starts above 2^64-1, the first extent that has one, and its line.
-use Rattle.std.specs.Prelude.{ℕ, ◌+◌, ◌*◌, ◌≤◌, ◌<◌, List, [], ◌∷◌, true, ◌≡◌, ◌↔◌, length, take, get_or}
+use Rattle.std.specs.Prelude.{ℕ, ◌+◌, ◌*◌, ◌≤◌, ◌<◌, List, [], ◌∷◌, true, ◌≡◌, ◌↔◌, length, take, get_or, Err, Ok}
 use Rattle.text.specs.Ranges.{within}
 use Rattle.text.specs.Sector.{sector_size, largest}
 use Rattle.lines.specs.Record.{no_extent, counted}
@@ -7,7 +7,6 @@ use Rattle.lines.specs.Line.{line_of}
 use Rattle.lines.specs.declared.line.Said.TheVariants.{Extent}
 use Rattle.lines.specs.declared.record.Record.{Record}
 use Rattle.lines.specs.declared.record.Refusal.{Refusal}
-use Rattle.lines.specs.declared.record.Verdict.TheVariants.{Sound, Refused}
 use Rattle.lines.specs.declared.record.VmdkParsedExtent.{VmdkParsedExtent}
 use Rattle.lines.specs.declared.record.VmdkParsedStorage.{VmdkParsedStorage}
 use Rattle.lines.specs.declared.record.VmdkParsedStorage.TheVariants.{NoAccess, Zero, Flat}
@@ -58,7 +57,7 @@ pub record OverAt (Over : ℕ → VmdkParsedExtent → Type 0) (d : List ℕ) (k
   pub place : ℕ
   pub there : LineAt d before line place k
   pub extent : VmdkParsedExtent
-  pub says : line_of place line ≡ Extent extent
+  pub says : line_of place line ≡ Ok (Extent extent)
   pub first : FirstOver Over (extents_in (sayings_of d)) (length (extents_in (sayings 0 before)))
 
 -- how many extents are said before that line
@@ -79,6 +78,6 @@ pub record OverIn (Over : ℕ → VmdkParsedExtent → Type 0) (r : Record) (k :
 
 -- Two records build alike: both or neither, refused with the same number, and tables that are alike.
 pub record BuildAlike (r s : Record) : Type 0 where
-  pub sound : ((build_of r).verdict ≡ Sound) ↔ ((build_of s).verdict ≡ Sound)
-  pub number : (x y : Refusal) → (build_of r).verdict ≡ Refused x → (build_of s).verdict ≡ Refused y → x.number ≡ y.number
+  pub sound : ((build_of r).verdict ≡ (Ok tt)) ↔ ((build_of s).verdict ≡ (Ok tt))
+  pub number : (x y : Refusal) → (build_of r).verdict ≡ Err x → (build_of s).verdict ≡ Err y → x.fault ≡ y.fault
   pub table : AlikeTables (build_of r).table (build_of s).table

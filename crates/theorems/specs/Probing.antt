@@ -1,10 +1,9 @@
 -- Probing, by the lines of a descriptor.
-use Rattle.std.specs.Prelude.{ℕ, ◌≤◌, List, ◌∷◌, ◌++◌, true, ◌≡◌}
+use Rattle.std.specs.Prelude.{ℕ, ◌≤◌, List, ◌∷◌, ◌++◌, true, ◌≡◌, Some}
 use Rattle.text.specs.Ascii.{ascii}
 use Rattle.text.specs.Lines.{count}
 use Rattle.text.specs.Number.{number_of}
 use Rattle.text.specs.Text.{text_at, sound, trimmed}
-use Rattle.text.specs.declared.number.Num.TheVariants.{Value}
 use Rattle.lines.specs.Line.{version_limit}
 use Rattle.theorems.specs.Tiling.{All}
 
@@ -21,7 +20,7 @@ PassedOver l = (sound (text_at l 0) ≡ true) × ((rest : List ℕ) → VersionL
 
 -- the trimmed rest is a number 1 to 3
 abbrev pub OneToThree : List ℕ → Type 0
-OneToThree rest = (n : ℕ) × (number_of version_limit (trimmed rest) ≡ Value n) × (1 ≤ n) × (n ≤ 3)
+OneToThree rest = (n : ℕ) × (number_of version_limit (trimmed rest) ≡ Some n) × (1 ≤ n) × (n ≤ 3)
 
 -- Of some lines the first that has the key `version` says 1 to 3; it and those before it are UTF-8.
 pub record FirstSays (ls : List (List ℕ)) : Type 0 where

@@ -1,5 +1,5 @@
 -- The words of the theorems about the answers: the report of document 01, whole, and what stands in an answer.
-use Rattle.std.specs.Prelude.{ℕ, ◌+◌, ◌≤◌, List, [], ◌∷◌, ◌++◌, map, ◌≡◌, ◌⊎◌, length}
+use Rattle.std.specs.Prelude.{ℕ, ◌+◌, ◌≤◌, List, [], ◌∷◌, ◌++◌, map, ◌≡◌, ◌⊎◌, length, Err, Ok}
 use Prim.Native.String.{String}
 use Rattle.text.specs.Ascii.{ascii}
 use Rattle.text.specs.Lines.{join_lines}
@@ -7,7 +7,6 @@ use Rattle.text.specs.Sector.{largest}
 use Rattle.probing.specs.Probe.{probe_of}
 use Rattle.descriptor.specs.Read.{read_of}
 use Rattle.lines.specs.declared.record.Refusal.{Refusal}
-use Rattle.lines.specs.declared.record.Verdict.TheVariants.{Sound, Refused}
 use Rattle.lines.specs.declared.record.VmdkParsedExtent.{VmdkParsedExtent}
 use Rattle.tables.specs.Build.{build_of}
 use Rattle.tables.specs.declared.table.Table.{Table}
@@ -41,11 +40,11 @@ unended ls = join_lines (map ascii ls)
 -- reading the descriptor is refused so, or it is read and building is refused so
 abbrev pub RefusedBy : List ℕ → Refusal → Type 0
 RefusedBy d x =
-    ((read_of d).verdict ≡ Refused x) ⊎ (((read_of d).verdict ≡ Sound) × ((build_of (read_of d).descriptor).verdict ≡ Refused x))
+    ((read_of d).verdict ≡ Err x) ⊎ (((read_of d).verdict ≡ (Ok tt)) × ((build_of (read_of d).descriptor).verdict ≡ Err x))
 
 -- the descriptor is read, and this is the table of its record
 abbrev pub Opens : List ℕ → Table → Type 0
-Opens d t = ((read_of d).verdict ≡ Sound) × Builds (read_of d).descriptor t
+Opens d t = ((read_of d).verdict ≡ (Ok tt)) × Builds (read_of d).descriptor t
 
 -- Only the refusal is written: the report has the probe's line before it, and the other answers have nothing else.
 pub record OnlyRefused (d : List ℕ) (x : Refusal) : Type 0 where

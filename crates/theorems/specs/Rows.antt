@@ -1,9 +1,8 @@
 -- The rows of a table that was built: one for each extent, each beginning where the one before it ends.
-use Rattle.std.specs.Prelude.{ℕ, suc, ◌+◌, ◌*◌, ◌<◌, ◌≤◌, true, false, ◌≡◌, length, get_or}
+use Rattle.std.specs.Prelude.{ℕ, suc, ◌+◌, ◌*◌, ◌<◌, ◌≤◌, true, false, ◌≡◌, length, get_or, Ok}
 use Rattle.text.specs.Sector.{sector_size}
 use Rattle.lines.specs.Record.{most, read_in, counted, no_read, no_extent}
 use Rattle.lines.specs.declared.record.Record.{Record}
-use Rattle.lines.specs.declared.record.Verdict.TheVariants.{Sound}
 use Rattle.lines.specs.declared.record.VmdkParsedExtent.{VmdkParsedExtent}
 use Rattle.lines.specs.declared.record.VmdkParsedStorage.{VmdkParsedStorage}
 use Rattle.lines.specs.declared.record.VmdkParsedStorage.TheVariants.{NoAccess, Zero, Flat}
@@ -17,7 +16,7 @@ use Rattle.maps.specs.Place.{bytes_in, size_of}
 
 -- the record builds, and this is its table
 abbrev pub Builds : Record → Table → Type 0
-Builds r t = build_of r ≡ record { verdict = Sound; table = t }
+Builds r t = build_of r ≡ record { verdict = (Ok tt); table = t }
 
 -- an extent's source, its file start in bytes
 abbrev pub source_of : VmdkParsedStorage → Source

@@ -1,5 +1,5 @@
 -- What demand 3 says of a walk's pieces, in terms of the places that the extents give to the bytes of the disk.
-use Rattle.std.specs.Prelude.{ℕ, zero, suc, ◌+◌, ◌-◌, ◌*◌, ◌<◌, ◌≤◌, min, max, Bool, true, false, ◌≡◌, ◌↔◌, ◌⊎◌, length, ltb}
+use Rattle.std.specs.Prelude.{ℕ, zero, suc, ◌+◌, ◌-◌, ◌*◌, ◌<◌, ◌≤◌, min, max, Bool, true, false, ◌≡◌, ◌↔◌, ◌⊎◌, length, ltb, Err, Ok}
 use mathlib.Core.List.{List, [], ◌∷◌, map, Memᴰ}
 use Rattle.std.proofs.Math.Option.{Option, none, some}
 use Rattle.text.specs.Ranges.{pick}
@@ -9,7 +9,8 @@ use Rattle.lines.specs.declared.record.VmdkParsedStorage.TheVariants.{NoAccess, 
 use Rattle.tables.specs.declared.table.Piece.{Piece}
 use Rattle.tables.specs.declared.table.PieceSource.{PieceSource}
 use Rattle.tables.specs.declared.table.PieceSource.TheVariants.{Zero as Zeros, Raw as File}
-use Rattle.tables.specs.declared.table.Stop.TheVariants.{Done, Refused as Stopped}
+use Rattle.tables.specs.declared.table.Stop.TheVariants.{Done}
+use Rattle.lines.specs.declared.record.Fault.TheVariants.{Inaccessible}
 use Rattle.maps.specs.Place.{Place, past, locked, zeros, file, bytes_in, size_of, place_of}
 use Rattle.maps.specs.Walk.{Walk}
 
@@ -142,7 +143,7 @@ pub record Tiles (xs : List VmdkParsedExtent) (start long : ℕ) (w : Walk) : Ty
   -- (e) no tiling by ranges that each lie in one extent is shorter
   pub least : (rs : List Range) → Chain start rs w.position → All (InOne xs) rs → length w.pieces ≤ length rs
   -- (f) the stop is refusal 21 exactly if a no-access byte lies in the range, and otherwise Done: never More and never 22
-  pub refused : w.stop ≡ Stopped 21 ↔ Meets xs start (start + long)
-  pub otherwise : (w.stop ≡ Stopped 21) ⊎ (w.stop ≡ Done)
+  pub refused : w.stop ≡ Err Inaccessible ↔ Meets xs start (start + long)
+  pub otherwise : (w.stop ≡ Err Inaccessible) ⊎ (w.stop ≡ (Ok Done))
   -- (g) rows looked at: at most 11 for each piece and 11 besides
   pub few : w.looked ≤ 11 * length w.pieces + 11

@@ -1,11 +1,9 @@
 -- What a record holds of a descriptor's values: for each key what the last line with it says, and the start value where there is none.
-use Rattle.std.specs.Prelude.{ℕ, List, ◌⊎◌, ◌≡◌, length}
+use Rattle.std.specs.Prelude.{ℕ, List, ◌⊎◌, ◌≡◌, length, Option, Some}
 use Rattle.text.specs.Lines.{lines_of}
 use Rattle.text.specs.Number.{number_of}
 use Rattle.text.specs.Sector.{largest}
 use Rattle.text.specs.Text.{trimmed}
-use Rattle.text.specs.declared.number.Num.{Num}
-use Rattle.text.specs.declared.number.Num.TheVariants.{Value}
 use Rattle.keys.specs.declared.key.Geometry.TheVariants.{Sectors, Heads, Cylinders}
 use Rattle.lines.specs.Record.{no_text}
 use Rattle.lines.specs.Line.{version_limit}
@@ -40,7 +38,7 @@ start_of (geometry g) = number 0
 
 -- what a trimmed value says: a number, or a text
 pub data Meaning : Type 0 where
-  numeral : Num → Meaning
+  numeral : Option ℕ → Meaning
   letters : List ℕ → Meaning
 
 -- `version`: a number, quotes not stripped; `CID`, `parentCID`: the text as it stands; `createType`: quotes stripped; the geometry: quotes stripped, then a number
@@ -53,7 +51,7 @@ meant (geometry g) v = numeral (number_of largest (unquoted v))
 
 -- that number is held, or a text that has these bytes in the descriptor d; an empty text is place 0, length 0
 abbrev pub Holds : List ℕ → Held → Meaning → Type 0
-Holds d (number n) (numeral m) = m ≡ Value n
+Holds d (number n) (numeral m) = m ≡ Some n
 Holds d (text x) (letters v) = (text_in d x ≡ v) × (x.length ≡ length v) × (x.length ≡ 0 → x.place ≡ 0)
 Holds d (number n) (letters v) = ⊥
 Holds d (text x) (numeral m) = ⊥

@@ -2,4 +2,3 @@ pub mod Sum
 pub mod Read
 pub mod Map
 pub mod Walk
-pub mod inside

@@ -1,10 +1,11 @@
 -- The sum over many mappings of one table, each with its place and its run.
-use Rattle.std.specs.Prelude.{ℕ, zero, suc, ◌+◌, ◌*◌, ◌%◌, Bool, nat_lt}
+use Rattle.std.specs.Prelude.{ℕ, zero, suc, ◌+◌, ◌*◌, ◌%◌, Bool, nat_lt, Err, Ok, Result}
 use Rattle.text.specs.Ranges.{pick}
 use Rattle.tables.specs.declared.table.Table.{Table}
-use Rattle.tables.specs.declared.table.ShallowMapping.{ShallowMapping}
-use Rattle.tables.specs.declared.table.ShallowMapping.TheVariants.{Eof, Zero, Raw, Refused}
+use Rattle.tables.specs.declared.table.ShallowMapping.TheVariants.{Eof, Zero, Raw}
 use Rattle.tables.specs.declared.table.Mapping.{Mapping}
+use Rattle.tables.specs.declared.table.ShallowMapping.{ShallowMapping}
+use Rattle.lines.specs.declared.record.Fault.{Fault}
 use Rattle.maps.specs.Map.{map_of}
 use Rattle.timing.specs.Sum.{fold_of}
 
@@ -17,11 +18,11 @@ abbrev pub is_ascending : ℕ → Bool
 is_ascending n = nat_lt 0 n
 
 -- the file offset, 0 for zeros, 1 for the end or a refusal
-abbrev pub place_of : ShallowMapping → ℕ
-place_of Eof = 1
-place_of (Zero i) = 0
-place_of (Raw i at w) = at
-place_of (Refused n) = 1
+abbrev pub place_of : Result ShallowMapping Fault → ℕ
+place_of (Ok Eof) = 1
+place_of (Ok (Zero i)) = 0
+place_of (Ok (Raw i at w)) = at
+place_of (Err n) = 1
 
 -- the sum with a mapping in it: its place, then its run
 abbrev pub mapping_in : ℕ → Mapping → ℕ

@@ -1,18 +1,17 @@
 -- What reading, building and probing a descriptor answer, as one number.
-use Rattle.std.specs.Prelude.{ℕ, zero, suc, Bool, true, false, List}
+use Rattle.std.specs.Prelude.{ℕ, zero, suc, Bool, true, false, List, Err, Ok}
 use Rattle.text.specs.Sector.{largest}
 use Rattle.descriptor.specs.Read.{read_of}
-use Rattle.lines.specs.declared.record.Verdict.{Verdict}
-use Rattle.lines.specs.declared.record.Verdict.TheVariants.{Sound, Refused}
 use Rattle.tables.specs.Build.{no_table, build_of}
 use Rattle.tables.specs.Into.{build_into}
 use Rattle.tables.specs.declared.table.Table.{Table}
 use Rattle.timing.specs.Sum.{fold_of}
+use Rattle.lines.specs.Record.{Verdict}
 
 -- a number where the verdict is sound, 2^64-1 where it is a refusal
 abbrev pub sound_or : Verdict → ℕ → ℕ
-sound_or Sound n = n
-sound_or (Refused r) n = largest
+sound_or (Ok tt) n = n
+sound_or (Err r) n = largest
 
 -- a size where both verdicts are sound
 abbrev pub value_of : Verdict → Verdict → ℕ → ℕ

@@ -35,7 +35,7 @@ pub extern "C" fn ours_probe(descriptor: &[u8]) -> u64
 pub extern "C" fn ours_map(descriptor: &[u8], ascending: u64, count: u64) -> u64
     ensures { result ≡ map_sum (is_ascending ascending) count (table_in descriptor.now) 0 0 }
 {
-    map::map_in(descriptor, ascending, count)
+    map::map_in(descriptor, 0 < ascending, count)
 }
 
 // The sum over so many walks, window after window, with every piece that they wrote.

@@ -1,58 +1,39 @@
 // Reading a descriptor and building its table so many times, into a record and a table that are made once and lent again.
-ghost use Rattle.std.specs.Prelude.{◌≡◌, ◌<◌};
+ghost use Rattle.std.specs.Prelude.{◌≡◌};
+ghost use Rattle.descriptor.specs.Read.{read_of};
+ghost use Rattle.tables.specs.Into.{build_into};
 ghost use Rattle.timing.specs.Read.{value_of, size_of, reads_sum};
-ghost use Rattle.timing.specs.inside.Rounds.{round_of, rounds_of};
 
 use crate::sum::fold;
 use descriptor::{empty, read};
-use lines::record::Verdict;
+use lines::record::{Record, Verdict};
 use tables::build;
+use tables::table::Table;
 use text::sector::Bytes;
-
-// Where the loop stands: whether there is one more round, how many are left, and the sum so far.
-#[derive(Clone, Copy)]
-pub(crate) struct Rounds {
-    pub more: bool,
-    pub left: u64,
-    pub sum: u64,
-}
 
 // What a round adds: the disk's size; 2^64-1 if reading or building is refused.
 fn value_of(read: Verdict, built: Verdict, size: Bytes) -> u64
     ensures { result ≡ value_of read built size.0 }
 {
     match read {
-        Verdict::Refused(r) => u64::MAX,
-        Verdict::Sound => match built {
-            Verdict::Refused(r) => u64::MAX,
-            Verdict::Sound => size.offset(),
+        Err(_) => u64::MAX,
+        Ok(()) => match built {
+            Err(_) => u64::MAX,
+            Ok(()) => size.offset(),
         },
     }
 }
 
-// Before the first round.
-fn begin(count: u64) -> Rounds
-    ensures { result ≡ rounds_of count }
+// Reads a descriptor and builds its table, into a record and a table that are lent: the disk's size; 2^64-1 if either is refused.
+// Inline, so that reading and building stay functions of their own: written into one caller, they take longer.
+#[inline(always)]
+pub(crate) fn fill(d: &[u8], record: &mut Record, table: &mut Table) -> u64
+    ensures size { result ≡ size_of d.now }
+    ensures table { table.new ≡ build_into (read_of d.now).descriptor table.old }
 {
-    Rounds {
-        more: 0 < count,
-        left: count,
-        sum: 0,
-    }
-}
-
-// After a round.
-fn after(k: Rounds, read: Verdict, built: Verdict, size: Bytes) -> Rounds
-    requires { 0 < k.left }
-    ensures { result ≡ round_of k (value_of read built size.0) }
-{
-    let value = value_of(read, built, size);
-    let sum = fold(k.sum, value);
-    Rounds {
-        more: 1 < k.left,
-        left: k.left - 1,
-        sum,
-    }
+    let read = read::parse_descriptor_file(d, record);
+    let built = build::build(record, table);
+    value_of(read, built, table.size)
 }
 
 // The sum over so many rounds.
@@ -61,11 +42,9 @@ pub(crate) fn reads(d: &[u8], count: u64) -> u64
 {
     let mut record = empty::no_record();
     let mut table = build::no_table();
-    let mut k = begin(count);
-    while k.more {
-        let read = read::parse_descriptor_file(d, &mut record);
-        let built = build::build(&record, &mut table);
-        k = after(k, read, built, table.size);
+    let mut sum = 0;
+    for _ in 0..count {
+        sum = fold(sum, fill(d, &mut record, &mut table));
     }
-    k.sum
+    sum
 }

@@ -6,7 +6,5 @@ ghost use Rattle.timing.specs.Sum.{fold_of};
 pub(crate) fn fold(sum: u64, value: u64) -> u64
     ensures { result ≡ fold_of sum value }
 {
-    let twice = std::num::wrapping_add_u64(sum, sum);
-    let thrice = std::num::wrapping_add_u64(twice, sum);
-    std::num::wrapping_add_u64(thrice, value)
+    sum.wrapping_mul(3).wrapping_add(value)
 }

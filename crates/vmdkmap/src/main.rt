@@ -29,52 +29,33 @@ as in: vmdkmap < reel.vmdk
 
 // How many arguments there are, without the program's own name. An empty buffer tells one that is there from one that is missing.
 fn arguments(rt: &impl Env) -> usize {
-    let mut n = 0;
-    for i in 1..usize::MAX {
-        match rt.arg(i, &mut []) {
-            Err(FillError::NotPresent) => break,
-            _ => n = i,
-        }
-    }
-    n
+    (1..usize::MAX)
+        .take_while(|i| !matches!(rt.arg(*i, &mut []), Err(FillError::NotPresent)))
+        .count()
 }
 
-// Puts argument i in a buffer; its length, which is 0 where it is missing, or none where the buffer is too short for it.
-fn argument(rt: &impl Env, i: usize, buf: &mut [u8]) -> Option<usize>
-    ensures { IfSome result (λ n. n ≤ length buf.new) }
-{
+// Argument i, by way of a buffer: empty where it is missing, or none where the buffer is too short for it.
+fn argument<'a>(rt: &impl Env, i: usize, buf: &'a mut [u8]) -> Option<&'a [u8]> {
     match rt.arg(i, buf) {
-        Ok(n) => Some(n),
-        Err(FillError::NotPresent) => Some(0),
+        Ok(n) => Some(&buf[..n]),
+        Err(FillError::NotPresent) => Some(&[]),
         Err(FillError::TooLong) => None,
     }
 }
 
-// What the arguments ask. One of more than 4,096 bytes is none that is known.
-fn asked(rt: &impl Env) -> Command {
+// What the arguments ask, or none where one of them has more than 4,096 bytes. (Four arrays: the check does not follow the parts of an array of four.)
+fn command(rt: &impl Env) -> Option<Command> {
     let mut mode = [0; LONGEST];
-    let Some(mode_length) = argument(rt, 1, &mut mode) else {
-        return Command::Usage;
-    };
     let mut a = [0; LONGEST];
-    let Some(a_length) = argument(rt, 2, &mut a) else {
-        return Command::Usage;
-    };
     let mut b = [0; LONGEST];
-    let Some(b_length) = argument(rt, 3, &mut b) else {
-        return Command::Usage;
-    };
     let mut c = [0; LONGEST];
-    let Some(c_length) = argument(rt, 4, &mut c) else {
-        return Command::Usage;
-    };
-    read_command(
+    Some(read_command(
         arguments(rt),
-        &mode[..mode_length],
-        &a[..a_length],
-        &b[..b_length],
-        &c[..c_length],
-    )
+        argument(rt, 1, &mut mode)?,
+        argument(rt, 2, &mut a)?,
+        argument(rt, 3, &mut b)?,
+        argument(rt, 4, &mut c)?,
+    ))
 }
 
 // Writes each mode, with an example, on standard error.
@@ -123,11 +104,13 @@ fn read_input(from: &mut impl Read, input: &mut [u8]) -> io::Result<usize>
 // Writes the answer to an input, by way of a buffer.
 fn respond(rt: &(impl Print + Eprint), d: &[u8], asked: Command, out: &mut [u8]) -> io::Result<()> {
     let n = answer(d, asked, out);
-    if out.len() < n {
-        let _ = rt.eprintln("vmdkmap: the answer is too long");
-        return Ok(());
+    match out.get(..n) {
+        Some(text) => rt.write_all(text),
+        None => {
+            let _ = rt.eprintln("vmdkmap: the answer is too long");
+            Ok(())
+        }
     }
-    rt.write_all(&out[..n])
 }
 
 // Reads the input and writes the answer.
@@ -146,7 +129,7 @@ fn run(rt: &(impl Input + Print + Eprint + Alloc), asked: Command) -> ExitCode {
 
 // Tells the usage, or reads and answers.
 fn main(rt: HostRuntime) -> ExitCode {
-    let asked = asked(&rt);
+    let asked = command(&rt).unwrap_or(Command::Usage);
     match asked {
         Command::Usage => {
             usage(&rt);

@@ -4,7 +4,7 @@
 // which takes the answers from compare/paper.py.
 #![tactic(auto)]
 
-ghost use Rattle.std.specs.Prelude.{◌≤◌, length};
+ghost use Rattle.std.specs.Prelude.{◌<◌, ◌≤◌, length, IfSome};
 
 use input::read_full;
 use report::answer::{answer, answer_space, input_space};
@@ -12,70 +12,47 @@ use report::command::{Command, read_command};
 use std::io::Read;
 use std::rt::Files;
 use std::{fs, io};
-use text::words::Word;
 
-// The next word of a line from a place on, empty where there is none.
-#[tactic(auto, using(text::proofs::Bounds::cuts))]
-fn word(l: &[u8], from: usize) -> &[u8] {
-    let w = text::words::next_word(l, from);
-    match w {
-        Word::Found(a, e) => &l[a..e],
-        Word::None => &l[..0],
+// The words of a line, or of what is left of it.
+#[derive(Clone, Copy)]
+struct Words<'a>(&'a [u8]);
+
+impl<'a> Iterator for Words<'a> {
+    type Item = &'a [u8];
+
+    #[tactic(auto, using(text::proofs::Bounds::cuts))]
+    fn next(&mut self) -> Option<&'a [u8]> {
+        let line = self.0;
+        let (a, e) = text::words::next_word(line, 0)?;
+        self.0 = &line[e..];
+        Some(&line[a..e])
     }
 }
 
-// Where the next word of a line ends.
-fn after(l: &[u8], from: usize) -> usize {
-    let w = text::words::next_word(l, from);
-    match w {
-        Word::Found(_, e) => e,
-        Word::None => l.len(),
-    }
-}
-
-// One more than n, if there is a word.
-fn counted(n: usize, w: &[u8]) -> usize {
-    if w.len() == 0 {
-        return n;
-    }
-    if n == usize::MAX {
-        return n;
-    }
-    n + 1
-}
-
-// What the words of a line from a place on ask, as the program's arguments.
-fn asked(l: &[u8], from: usize) -> Command {
-    let mode = word(l, from);
-    let at_a = after(l, from);
-    let a = word(l, at_a);
-    let at_b = after(l, at_a);
-    let b = word(l, at_b);
-    let at_c = after(l, at_b);
-    let c = word(l, at_c);
-    let at_more = after(l, at_c);
-    let more = word(l, at_more);
-    let n = counted(counted(counted(counted(counted(0, mode), a), b), c), more);
+// What words ask, as the program's arguments: a fifth is one too many.
+fn asked(mut words: Words) -> Command {
+    let n = words.take(5).count();
+    let mode = words.next().unwrap_or(&[]);
+    let a = words.next().unwrap_or(&[]);
+    let b = words.next().unwrap_or(&[]);
+    let c = words.next().unwrap_or(&[]);
     read_command(n, mode, a, b, c)
 }
 
-// Writes the answer to an input, by way of a buffer.
+// Writes the answer to an input, by way of a buffer. (`vmdkmap` tells elsewhere, and in other words, that it is too long.)
 fn respond(rt: &impl Print, d: &[u8], asked: Command, out: &mut [u8]) -> io::Result<()> {
     let n = answer(d, asked, out);
-    if out.len() < n {
-        return rt.println("too long");
+    match out.get(..n) {
+        Some(text) => rt.write_all(text),
+        None => rt.println("too long"),
     }
-    rt.write_all(&out[..n])
 }
 
 // Reads a file; how many bytes it has. One that can't be read, as a folder, is as an empty one.
 fn read_file(file: &mut impl Read, input: &mut [u8]) -> usize
     ensures { result ≤ length input.new }
 {
-    match read_full(file, input) {
-        Ok(n) => n,
-        Err(_) => 0,
-    }
+    read_full(file, input).unwrap_or(0)
 }
 
 // Writes the answer to a file.
@@ -97,8 +74,10 @@ fn run_case(rt: &(impl Files + Print), l: &[u8]) -> io::Result<()> {
     rt.write_all(b"> ")?;
     rt.write_all(l)?;
     rt.write_all(b"\n")?;
-    let asked = asked(l, after(l, 0));
-    let Some(mut file) = open(rt, word(l, 0)) else {
+    let mut words = Words(l);
+    let name = words.next().unwrap_or(&[]);
+    let asked = asked(words);
+    let Some(mut file) = open(rt, name) else {
         return rt.println("no such file");
     };
     match asked {
@@ -109,20 +88,24 @@ fn run_case(rt: &(impl Files + Print), l: &[u8]) -> io::Result<()> {
     }
 }
 
+// The first case of a list and the lines after its own; none where that is empty or has no end.
+fn first_case(list: &[u8]) -> Option<(&[u8], &[u8])>
+    ensures { IfSome result (λ parts. length parts.1.now < length list.now) }
+{
+    let (line, rest) = list.split_at_checked(text::find::line_end(list, 0))?;
+    let (_, rest) = rest.split_first()?;
+    if line.is_empty() {
+        return None;
+    }
+    Some((line, rest))
+}
+
 // Runs case after case; how many there were.
-fn run_all(rt: &(impl Files + Print), list: &[u8]) -> io::Result<u64> {
-    let mut at = 0;
-    let mut n: u64 = 0;
-    while at < list.len() {
-        let e = text::find::line_end(list, at);
-        if e <= at {
-            return Ok(n);
-        }
-        if list.len() <= e {
-            return Ok(n);
-        }
-        run_case(rt, &list[at..e])?;
-        at = e + 1;
+fn run_all(rt: &(impl Files + Print), mut list: &[u8]) -> io::Result<usize> {
+    let mut n = 0;
+    while let Some((line, rest)) = first_case(list) {
+        run_case(rt, line)?;
+        list = rest;
         n += 1;
     }
     Ok(n)

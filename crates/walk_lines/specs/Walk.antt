@@ -1,5 +1,5 @@
 -- The lines of a walk: one for each piece, and one that says why it stopped; or only the refusal of a read or a build.
-use Rattle.std.specs.Prelude.{ℕ, List, [], ◌∷◌, ◌++◌, Bool, length}
+use Rattle.std.specs.Prelude.{ℕ, List, [], ◌∷◌, ◌++◌, Bool, length, Err, Ok, Result}
 use Rattle.text.specs.Ascii.{ascii}
 use Rattle.maps.specs.Walk.{Walk, walk_of, walked}
 use Rattle.tables.specs.declared.table.Row.{Row}
@@ -7,13 +7,14 @@ use Rattle.tables.specs.declared.table.Source.{Source}
 use Rattle.tables.specs.declared.table.PieceSource.{PieceSource}
 use Rattle.tables.specs.declared.table.PieceSource.TheVariants.{Zero, Raw}
 use Rattle.tables.specs.declared.table.Piece.{Piece}
-use Rattle.tables.specs.declared.table.Stop.{Stop}
-use Rattle.tables.specs.declared.table.Stop.TheVariants.{Done, More, Refused}
+use Rattle.tables.specs.declared.table.Stop.TheVariants.{Done, More}
 use Rattle.tables.specs.declared.table.Walked.{Walked}
+use Rattle.tables.specs.declared.table.Stop.{Stop}
+use Rattle.lines.specs.declared.record.Fault.{Fault}
+use Rattle.lines.specs.Fault.{refusal_number}
 use Rattle.puts.specs.Decimal.{decimal_of}
 use Rattle.phrases.specs.Line.{spaced, field, line, lines_to, mode_word, name_of, source_at}
-use Rattle.phrases.specs.Opening.{open_of, unless}
-use Rattle.phrases.specs.declared.opening.Opened.{Opened}
+use Rattle.phrases.specs.Opening.{Opened, open_of, unless}
 
 -- where a piece's bytes come from
 abbrev pub raw_words : ℕ → ℕ → Bool → List ℕ → List (List ℕ)
@@ -32,10 +33,10 @@ unfoldable pub piece_line : List ℕ → List Row → ℕ → Piece → List ℕ
 piece_line d rows i p = piece_from d (source_at rows p.row) p
 
 -- why a walk stopped
-abbrev pub stop_text : Stop → List ℕ
-stop_text Done = spaced (ascii "done at")
-stop_text More = spaced (ascii "more at")
-stop_text (Refused k) = field (ascii "refused") k ++ spaced (ascii "0 at")
+abbrev pub stop_text : Result Stop Fault → List ℕ
+stop_text (Ok Done) = spaced (ascii "done at")
+stop_text (Ok More) = spaced (ascii "more at")
+stop_text (Err f) = field (ascii "refused") (refusal_number f) ++ spaced (ascii "0 at")
 
 -- the position reached, the number of pieces, and the sum of rows looked at
 unfoldable pub stop_line : Walked → List ℕ

@@ -1,6 +1,6 @@
 -- What the code asks of several bytes at once, or of a place, so as not to read one character after the other.
 -- Only functions that are not exported promise these; what they come to is said by the definitions of Text.
-use Rattle.std.specs.Prelude.{ℕ, zero, suc, ◌≤◌, List, Bool, true, false, ◌&&◌, not, ◌≡◌, length, get_or, ltb, eqb}
+use Rattle.std.specs.Prelude.{ℕ, zero, suc, ◌≤◌, ◌<◌, List, Bool, true, false, ◌≡◌, length, get_or}
 use Rattle.text.specs.Ranges.{pick, within}
 use Rattle.text.specs.Blank.{blank}
 use Rattle.text.specs.Text.{sound, text_at}
@@ -8,17 +8,8 @@ use Rattle.text.specs.declared.utf8.Char.{Char}
 use Rattle.text.specs.declared.utf8.Char.TheVariants.{Scalar, Bad, End}
 
 -- each of the first n bytes passes a test
-unfoldable pub each : (ℕ → Bool) → ℕ → List ℕ → Bool
-each p zero l = true
-each p (suc n) l = each p n l && p (get_or l n 0)
-
--- a byte below 80
-abbrev pub is_low : ℕ → Bool
-is_low x = ltb x 0x80
-
--- a byte that is not b
-abbrev pub is_other : ℕ → ℕ → Bool
-is_other b x = not (eqb x b)
+unfoldable pub Passing : (ℕ → Bool → Type 0) → ℕ → List ℕ → Type 0
+Passing p n l = (i : ℕ) → i < n → p (get_or l i 0) true
 
 -- from a up to e there are whole characters: the text is UTF-8 from a on exactly if it is from e on
 unfoldable pub Passed : List ℕ → ℕ → ℕ → Type 0

@@ -1,9 +1,9 @@
--- The counts stay below the number of turns, and each turn takes one from what is left of those.
-use Rattle.std.proofs.Common.{◌-◌, ◌≤◌}
+-- No more vectors are counted than places passed, and no more failed; the measure is what is left of the input.
+use Rattle.std.proofs.Common.{◌+◌, ◌≤◌, length}
 use Rattle.text_vectors.proofs.run_all.Given as goal
 
-abbrev pub invariant-loop-count : goal.invariant-loop-count
-invariant-loop-count g l = (l.failed ≤ l.count) × (l.count ≤ 65536)
+abbrev pub invariant-loop-vector : goal.invariant-loop-vector
+invariant-loop-vector g l = record { passed : l.count + length l.d ≤ length l.initial.d; some : l.failed ≤ l.count }
 
-abbrev pub decreases-loop-count : goal.decreases-loop-count
-decreases-loop-count g l = 65536 - l.count
+abbrev pub decreases-loop-vector : goal.decreases-loop-vector
+decreases-loop-vector g l = length l.d

@@ -1,20 +1,10 @@
-use Rattle.std.proofs.Common.{◌≡◌, ◌∙◌, ap}
-use Rattle.descriptor.specs.Read.{read_of}
-use Rattle.descriptor.specs.Into.{read_into}
-use Rattle.descriptor.proofs.Turns.{Ending, begin_right, turn_right, end_right, all_is, nearer}
+-- `parse_descriptor_file` meets its contract. What reading the lines answers tells the verdict, the values and the count.
+-- Assumes nothing.
+use Rattle.descriptor.proofs.Turns.{sound_left, refused_left}
 use Rattle.descriptor.proofs.read.parse_descriptor_file.Goals as goal
 
-pub loop-m-init : goal.loop-m-init
-loop-m-init c = rw c.begin-m.ensures (begin_right c.args.d.now c.args.into.now)
+pub returns-in-Ok : goal.returns-in-Ok
+returns-in-Ok c = sound_left c.args.d.now c.args.into.now c.put_lines.ensures.extents c.in-Ok.ensures.head
 
-pub loop-m-smaller : goal.loop-m-smaller
-loop-m-smaller c = rw c.next-m.ensures (nearer c.args.d.now c.loop-m.m c.loop-m-test.true (c.loop-m.invariant.ready c.loop-m-test.true).1)
-
-pub loop-m-preserved : goal.loop-m-preserved
-loop-m-preserved c = rw (c.put_extent.ensures.stored, c.next-m.ensures) (turn_right c.args.d.now c.loop-m.into c.loop-m.m _ c.put_extent.ensures.places c.loop-m-test.true c.loop-m.invariant)
-
-pub returns : goal.returns
-returns c =
-    let e : (c.verdict_of.result, c.put_head.new.into) ≡ ((read_of c.args.d.now).verdict, read_into c.args.d.now c.args.into.now) =
-    rw (c.verdict_of.ensures, c.put_head.ensures) (end_right c.args.d.now c.loop-m.into c.loop-m.m _ c.loop-m-test.false c.loop-m.invariant ∙ all_is c.args.d.now c.args.into.now) in
-    (ap (λ (z : Ending). z.0) e, ap (λ (z : Ending). z.1) e)
+pub returns-in-Err : goal.returns-in-Err
+returns-in-Err c = rw c.no_desc-into.ensures (refused_left c.args.d.now c.args.into.now c.put_lines.ensures.extents c.in-Err.ensures.head)

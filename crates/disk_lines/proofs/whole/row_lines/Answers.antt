@@ -5,7 +5,7 @@ pub loop-i-init : goal.loop-i-init
 loop-i-init c = search row_lists
 
 pub loop-i-preserved : goal.loop-i-preserved
-loop-i-preserved c = (search row_lists, search row_lists)
+loop-i-preserved c = search row_lists
 
 pub returns : goal.returns
 returns c = search row_lists

@@ -1,14 +1,9 @@
--- `row_lines` meets its contract. The invariant: the lines of the first i rows are put, and i is at most the count. A turn puts one more; past most
--- rows there are none, whatever the count. Assumes nothing.
-use Prim.Native.Nat.{◌-◌, ◌≤◌}
-use Rattle.lines.specs.Record.{most}
-use Rattle.puts.specs.Put.{Put}
-use Rattle.phrases.specs.Line.{lines_to}
+-- `row_lines` meets its contract. The invariant: the lines of the rows before the one at hand are added. A turn adds one more. Assumes nothing.
+use lib.ListN.{take}
+use Rattle.phrases.specs.Line.{lines_from}
+use Rattle.phrases.specs.Adding.{Adds}
 use Rattle.disk_lines.specs.Report.{row_line}
 use Rattle.disk_lines.proofs.whole.row_lines.Given as goal
 
 abbrev pub invariant-loop-i : goal.invariant-loop-i
-invariant-loop-i l = Put l.initial.out l.at (lines_to (row_line l.d) l.rows l.i) l.next l.out × (l.i ≤ l.count)
-
-abbrev pub decreases-loop-i : goal.decreases-loop-i
-decreases-loop-i l = most - l.i
+invariant-loop-i l = Adds l.initial.answer (lines_from (row_line l.d) 0 (take l.i l.rows)) l.answer

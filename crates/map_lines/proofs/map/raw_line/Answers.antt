@@ -1,4 +1,4 @@
--- `raw_line` meets its contract. The file offset and the run are put as fields, and then the row to the line's end. The name is that of the row's
+-- `raw_line` meets its contract. The file offset and the run are added as fields, and then the row to the line's end. The name is that of the row's
 -- source. Assumes nothing.
 use Rattle.map_lines.proofs.Maps.{map_parts}
 use Rattle.map_lines.proofs.map.raw_line.Goals as goal

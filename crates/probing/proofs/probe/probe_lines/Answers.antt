@@ -10,14 +10,14 @@ slice_bounds-probe_line-start c = search probing
 pub slice_bounds-probe_line-end : goal.slice_bounds-probe_line-end
 slice_bounds-probe_line-end c = search probing
 
-pub returns-in-Answer : goal.returns-in-Answer
-returns-in-Answer c = search probing
+pub returns-in-Some : goal.returns-in-Some
+returns-in-Some c = search probing
 
 pub returns-then-d-e : goal.returns-then-d-e
 returns-then-d-e c = search probing
 
-pub loop-b-smaller : goal.loop-b-smaller
-loop-b-smaller c = search probing
+pub loop-answer-smaller : goal.loop-answer-smaller
+loop-answer-smaller c = search probing
 
-pub loop-b-preserved : goal.loop-b-preserved
-loop-b-preserved c = search probing
+pub loop-answer-preserved : goal.loop-answer-preserved
+loop-answer-preserved c = search probing

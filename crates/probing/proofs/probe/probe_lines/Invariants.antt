@@ -6,8 +6,8 @@ use lib.ListN.{length}
 use Rattle.probing.specs.inside.Places.{probe_at}
 use Rattle.probing.proofs.probe.probe_lines.Given as goal
 
-abbrev pub invariant-loop-b : goal.invariant-loop-b
-invariant-loop-b l = (l.at ≤ length l.d) × (probe_at l.d 0 ≡ probe_at l.d l.at)
+abbrev pub invariant-loop-answer : goal.invariant-loop-answer
+invariant-loop-answer l = (l.at ≤ length l.d) × (probe_at l.d 0 ≡ probe_at l.d l.at)
 
-abbrev pub decreases-loop-b : goal.decreases-loop-b
-decreases-loop-b l = length l.d - l.at
+abbrev pub decreases-loop-answer : goal.decreases-loop-answer
+decreases-loop-answer l = length l.d - l.at

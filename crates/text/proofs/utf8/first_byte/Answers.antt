@@ -1,16 +1,16 @@
 -- `utf8::first_byte` meets its contract: at each arm the byte is a key, or lies in a range within which `leads` has one value.
 -- For a key the table is computed at it; for a range it is computed from the two ends.
+use Rattle.std.specs.Prelude.{None}
 use Prim.Native.Nat.{ℕ, ◌≤◌}
 use native.Mathlib.Omega.{arith}
 use mathlib.Core.Path.{◌≡◌, sym, ap}
 use lib.Dec.{T}
 use Rattle.text.specs.Utf8.{lead_of, leads}
-use Rattle.text.specs.declared.utf8.Lead.TheVariants.{Never}
 use Rattle.text.proofs.Flat.{flat, look_in}
 use Rattle.text.proofs.Chars.{lead_in}
 use Rattle.text.proofs.utf8.first_byte.Goals as goal
 
-at : (lo hi b : ℕ) → T (flat lo hi leads) → lo ≤ b → b ≤ hi → look_in Never leads lo hi ≡ lead_of b
+at : (lo hi b : ℕ) → T (flat lo hi leads) → lo ≤ b → b ≤ hi → look_in None leads lo hi ≡ lead_of b
 at lo hi b t p q = sym (lead_in lo hi b t p q)
 
 pub returns-in-224 : goal.returns-in-224

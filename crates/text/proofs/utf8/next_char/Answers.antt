@@ -1,19 +1,12 @@
--- `utf8::next_char` meets its contract: past the end, at a byte that starts no character, and by the row of its first byte.
--- Every row has a span above 0 and bits below the room that its bytes leave, so the code point fits.
-use Rattle.text.proofs.Chars.{chars}
+use Rattle.text.proofs.Chars.{lead_bits, lead_count, char_tail}
 use Rattle.text.proofs.utf8.next_char.Goals as goal
 
-pub returns-then-t-at : goal.returns-then-t-at
-returns-then-t-at c = search chars
-
-pub nonzero_rem-b : goal.nonzero_rem-b
-nonzero_rem-b c = search chars
-
 pub tail-requires : goal.tail-requires
-tail-requires c = search chars
+tail-requires c =
+    let b = lead_bits _ c.first_byte.ensures c.in-Some-first_byte.is in
+    rw c.from.ensures (b, lead_count _ c.first_byte.ensures c.in-Some-first_byte.is)
 
-pub returns-in-Row : goal.returns-in-Row
-returns-in-Row c = search chars
-
-pub returns-in-Never : goal.returns-in-Never
-returns-in-Never c = search chars
+pub returns-in-Some-first_byte : goal.returns-in-Some-first_byte
+returns-in-Some-first_byte c =
+    let s = c.in-Some.ensures.lookup.3 in
+    char_tail _ _ s.0 (s.1 0) c.first_byte.ensures c.in-Some-first_byte.is (rw c.from.ensures at c.tail.ensures)

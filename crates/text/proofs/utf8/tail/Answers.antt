@@ -1,23 +1,11 @@
-use Rattle.text.proofs.Chars.{tails}
+use Rattle.text.proofs.Chars.{cap_shift, cap_next, tail_more}
 use Rattle.text.proofs.utf8.tail.Goals as goal
 
-pub returns-then-t-at : goal.returns-then-t-at
-returns-then-t-at c = search tails
-
-pub returns-then-x-lo : goal.returns-then-x-lo
-returns-then-x-lo c = search tails
-
-pub returns-then-hi-x : goal.returns-then-hi-x
-returns-then-hi-x c = search tails
-
 pub overflow_mul-code : goal.overflow_mul-code
-overflow_mul-code c = search tails
+overflow_mul-code c = cap_shift _ _ c.loop-x.invariant.0
 
-pub overflow_add-code : goal.overflow_add-code
-overflow_add-code c = search tails
-
-pub loop-more-preserved : goal.loop-more-preserved
-loop-more-preserved c = search tails
-
-pub returns : goal.returns
-returns c = search tails
+pub loop-x-preserved : goal.loop-x-preserved
+loop-x-preserved c =
+    let b = cap_next _ _ _ _ _ _ _ c.loop-x.invariant.1 c.loop-x-test.true c.if-t-n.false c.loop-x.invariant.0 in
+    let e = tail_more _ _ _ _ _ _ _ c.loop-x.invariant.1 c.loop-x-test.true c.if-t-n.false c.if-x-lo.false c.if-hi-x.false in
+    rw c.from.ensures (b, e)

@@ -1,29 +1,11 @@
-use Rattle.text.proofs.Runs.{runs, offs}
+use mathlib.Core.Path.{ap, ◌∙◌}
+use Rattle.text.specs.Blank.{blank}
+use Rattle.text.proofs.Runs.{offs, low_off}
 use Rattle.text.proofs.words.run_end.Goals as goal
 
-pub loop-at-preserved-then-equal : goal.loop-at-preserved-then-equal
-loop-at-preserved-then-equal c = search runs
-
 pub returns-then-b-lt128 : goal.returns-then-b-lt128
-returns-then-b-lt128 c = search runs
-
-pub overflow_add-at-then-equal-2 : goal.overflow_add-at-then-equal-2
-overflow_add-at-then-equal-2 c = search runs
-
-pub loop-at-smaller : goal.loop-at-smaller
-loop-at-smaller c = search runs
-
-pub loop-at-preserved : goal.loop-at-preserved
-loop-at-preserved c = search runs
+returns-then-b-lt128 c =
+    low_off c.args.wanted c.args.t.now c.loop-at.at c.loop-at.invariant c.loop-at-test.true c.if-b-lt128.true (c.is_blank.ensures ∙ ap blank c.from.ensures) c.if-is_blank-wanted.false
 
 pub returns-in-Scalar : goal.returns-in-Scalar
 returns-in-Scalar c = search offs
-
-pub returns-in-Bad : goal.returns-in-Bad
-returns-in-Bad c = search runs
-
-pub returns-in-End : goal.returns-in-End
-returns-in-End c = search runs
-
-pub returns : goal.returns
-returns c = search runs

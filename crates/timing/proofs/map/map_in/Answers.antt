@@ -1,13 +1,6 @@
--- The table that is built is that of the descriptor, whatever was lent.
-use Rattle.std.proofs.Common.{◌≡◌, ◌∙◌, ap}
-use Rattle.tables.specs.declared.table.Table.{Table}
-use Rattle.timing.specs.Read.{table_in}
-use Rattle.timing.specs.Map.{is_ascending, map_sum}
-use Rattle.timing.proofs.Answers.{lent_table}
+-- The table that is built is that of the descriptor.
+use Rattle.timing.proofs.Sums.{table_is}
 use Rattle.timing.proofs.map.map_in.Goals as goal
 
 pub returns : goal.returns
-returns c =
-    let table : c.build-built.new.into ≡ table_in c.args.d.now =
-    rw (c.build-built.ensures.1, c.parse_descriptor_file-read.ensures.1, c.no_record-record.ensures, c.no_table-table.ensures) (lent_table c.args.d.now) in
-    c.many.ensures ∙ ap (λ (t : Table). map_sum (is_ascending c.args.ascending) c.args.count t 0 0) table
+returns c = rw (c.many.ensures, c.fill.ensures.table, c.no_table-table.ensures, table_is)

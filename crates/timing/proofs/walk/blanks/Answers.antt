@@ -1,8 +1,6 @@
--- `timing::walk::blanks` meets its contract. The piece is the blank one, and the list repeats it.
--- Nothing else is there to show.
--- Assumes nothing.
-use Rattle.timing.proofs.Tours.{blanks}
+-- The piece is the blank one, and the list repeats it.
+use Rattle.timing.proofs.Sums.{blank_list}
 use Rattle.timing.proofs.walk.blanks.Goals as goal
 
 pub returns : goal.returns
-returns c = search blanks
+returns c = blank_list

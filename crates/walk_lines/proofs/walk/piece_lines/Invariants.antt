@@ -1,14 +1,10 @@
--- `piece_lines` meets its contract. The invariant: the lines of the first i pieces are put, and i is at most the count. A turn puts one more, by its row's source or, past the rows, by none; past
--- most pieces there are none, whatever the count. Assumes nothing.
-use Prim.Native.Nat.{◌-◌, ◌≤◌}
-use Rattle.lines.specs.Record.{most}
-use Rattle.puts.specs.Put.{Put}
-use Rattle.phrases.specs.Line.{lines_to}
+-- `piece_lines` meets its contract. The invariant: the lines of the pieces before the one at hand are added. A turn adds one more, by its row's source.
+-- Assumes nothing.
+use lib.ListN.{take}
+use Rattle.phrases.specs.Line.{lines_from}
+use Rattle.phrases.specs.Adding.{Adds}
 use Rattle.walk_lines.specs.Walk.{piece_line}
 use Rattle.walk_lines.proofs.walk.piece_lines.Given as goal
 
-abbrev pub invariant-loop-i : goal.invariant-loop-i
-invariant-loop-i l = Put l.initial.out l.at (lines_to (piece_line l.d l.rows) l.pieces l.i) l.next l.out × (l.i ≤ l.count)
-
-abbrev pub decreases-loop-i : goal.decreases-loop-i
-decreases-loop-i l = most - l.i
+abbrev pub invariant-loop-p : goal.invariant-loop-p
+invariant-loop-p l = Adds l.initial.answer (lines_from (piece_line l.d l.rows) 0 (take l.p-index l.pieces)) l.answer

@@ -1,4 +1,4 @@
--- `raw_piece` meets its contract. Two fields, the access and the name are put one after the other. They are the words of the definition. Assumes
+-- `raw_piece` meets its contract. Two fields, the access and the name are added one after the other. They are the words of the definition. Assumes
 -- nothing.
 use Rattle.walk_lines.proofs.Walks.{piece_parts}
 use Rattle.walk_lines.proofs.walk.raw_piece.Goals as goal
