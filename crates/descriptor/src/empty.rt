@@ -46,7 +46,7 @@ pub(crate) fn no_read() -> ReadExtent
     }
 }
 
-// No extent in any place.
+// No extent in any place. (Likewise `no_pieces` of maps and `no_rows` of tables; one function for the three would be `[x; MOST]` by another name.)
 fn no_extents() -> [ReadExtent; MOST]
     ensures { result ≡ filled no_read [] }
 {

@@ -6,15 +6,12 @@ ghost use Rattle.descriptor.specs.inside.Reading.{bytes_checked, sized_of, check
 
 use crate::empty;
 use lines::line::{Said, Setting, parse_descriptor_line};
-use lines::record::{Fault, MOST, ReadExtent, Record, Refusal, Verdict, VmdkDesc};
+use lines::record::{Fault, MOST, MOST_BYTES, ReadExtent, Record, Refusal, Verdict, VmdkDesc};
 use text::find::{line_end, starts_with};
 use text::sector::{Bytes, Sectors};
 
 // The least bytes of a descriptor.
 const LEAST_BYTES: usize = 4;
-
-// The most bytes of a descriptor.
-const MOST_BYTES: usize = 2097152;
 
 // Sets one of the values.
 #[tactic(auto, unfolding(crate::specs::Read::set_of))]
@@ -75,7 +72,8 @@ fn told(said: Result<Said, Fault>, line: usize) -> Result<Said, Refusal>
     said.map_err(|fault| fault.at(line))
 }
 
-// Reads line by line and stores each extent, up to the first refusal; answers the values and how many extents there are.
+// Reads line by line and stores each extent, up to the first refusal; answers the values and how many extents there are. A line is as long as it is, so the loop goes by the place.
+#[tactic(auto, using(crate::proofs::Steps::lines))]
 fn put_lines(d: &[u8], into: &mut Record) -> Result<(VmdkDesc, usize), Refusal>
     ensures head { result ≡ head_of (read_of d.now) }
     ensures extents { into.new ≡ with_extents (stored_of d.now) into.old }

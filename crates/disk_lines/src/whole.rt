@@ -1,4 +1,5 @@
-// The report of a descriptor.
+// The report of a descriptor. `d` and `answer` stay two parameters: one is read and the other written, and each contract speaks of both apart.
+// A `usize` is cast, since there is no `From` for it.
 ghost use Rattle.std.specs.Prelude.{◌≡◌};
 ghost use Rattle.puts.specs.Put.{Put};
 ghost use Rattle.phrases.specs.Line.{line, lines_from};
@@ -12,7 +13,7 @@ use probing::probe::probe;
 use tables::build::no_table;
 use tables::table::{Row, Source, Table};
 
-// Yes or no, as a word.
+// Yes or no, as a word; not by `Display`, here and in `source`: `write!` promises its bytes only where it answers `Ok`.
 fn yes_no(yes: bool) -> &'static [u8]
     ensures { result.now ≡ yes_no yes }
 {
@@ -20,6 +21,7 @@ fn yes_no(yes: bool) -> &'static [u8]
 }
 
 // Puts the probe's line.
+#[tactic(auto, using(phrases::proofs::Lines::lines), unfolding(crate::specs::Report::probe_line))]
 fn probe_line(yes: bool, answer: &mut Answer<'_>)
     ensures { Adds answer.old (probe_line yes) answer.new }
 {
@@ -28,6 +30,7 @@ fn probe_line(yes: bool, answer: &mut Answer<'_>)
 }
 
 // Puts the source of a flat row, to the end of its line.
+#[tactic(auto, using(phrases::proofs::Lines::lines))]
 fn flat_source(d: &[u8], a: VmdkAccessType, start: u64, t: Text, answer: &mut Answer<'_>)
     ensures { Adds answer.old (line (flat_words d.now a start t)) answer.new }
 {
@@ -38,6 +41,7 @@ fn flat_source(d: &[u8], a: VmdkAccessType, start: u64, t: Text, answer: &mut An
 }
 
 // Puts a row's source, to the end of its line.
+#[tactic(auto, using(phrases::proofs::Lines::lines))]
 fn source(d: &[u8], s: Source, answer: &mut Answer<'_>)
     ensures { Adds answer.old (line (source_words d.now s)) answer.new }
 {
@@ -52,6 +56,7 @@ fn source(d: &[u8], s: Source, answer: &mut Answer<'_>)
 }
 
 // Puts a row's line.
+#[tactic(auto, using(phrases::proofs::Lines::lines, crate::proofs::Reports::source_words_more), unfolding(crate::specs::Report::row_line))]
 fn row_line(d: &[u8], i: usize, row: &Row, answer: &mut Answer<'_>)
     ensures { Adds answer.old (row_line d.now i row.now) answer.new }
 {
@@ -62,10 +67,11 @@ fn row_line(d: &[u8], i: usize, row: &Row, answer: &mut Answer<'_>)
 }
 
 // Puts the lines of some rows.
+#[tactic(auto, using(puts::proofs::Puts::joins, crate::proofs::Reports::rows_next), unfolding(phrases::specs::Line::lines_from))]
 fn row_lines(d: &[u8], rows: &[Row], answer: &mut Answer<'_>)
     ensures { Adds answer.old (lines_from (row_line d.now) 0 rows.now) answer.new }
 {
-    // The place is read, so that a proof knows that it is a number of 64 bits.
+    // The place is read, so that a proof knows that it is a number of 64 bits: without it the loop's first goal does not close.
     let _at = answer.at;
     for (i, row) in rows.iter().enumerate() {
         row_line(d, i, row, answer);
@@ -73,6 +79,7 @@ fn row_lines(d: &[u8], rows: &[Row], answer: &mut Answer<'_>)
 }
 
 // Puts the lines of a descriptor's version, the disk's size and the number of its extents.
+#[tactic(auto, using(puts::proofs::Puts::joins), unfolding(crate::specs::Report::head_lines))]
 fn head_lines(version: u64, size: u64, count: u64, answer: &mut Answer<'_>)
     ensures { Adds answer.old (head_lines version size count) answer.new }
 {
@@ -82,14 +89,16 @@ fn head_lines(version: u64, size: u64, count: u64, answer: &mut Answer<'_>)
 }
 
 // Puts the lines of a version and a table.
+#[tactic(auto, using(puts::proofs::Puts::joins), unfolding(crate::specs::Report::table_lines, phrases::specs::Line::lines_to))]
 fn table_lines(d: &[u8], version: u32, t: &Table, answer: &mut Answer<'_>)
     ensures { Adds answer.old (table_lines d.now version t.now) answer.new }
 {
-    head_lines(version as u64, t.size.offset(), t.count as u64, answer);
+    head_lines(u64::from(version), t.size.offset(), t.count as u64, answer);
     row_lines(d, counted_rows(t), answer);
 }
 
 // Puts the report of a descriptor.
+#[tactic(auto, using(puts::proofs::Puts::joins, phrases::proofs::Openings::unless_is, phrases::proofs::Openings::version_is), unfolding(crate::specs::Report::report_of))]
 fn report(d: &[u8], answer: &mut Answer<'_>)
     ensures { Adds answer.old (report_of d.now) answer.new }
 {
@@ -101,7 +110,7 @@ fn report(d: &[u8], answer: &mut Answer<'_>)
     }
 }
 
-// Puts the report of a descriptor.
+// Puts the report of a descriptor. Not one function with `put_map`: that would take a closure, and a proof at each caller.
 pub fn put_report(d: &[u8], out: &mut [u8]) -> usize
     ensures { Put out.old 0 (report_of d.now) result out.new }
 {

@@ -12,7 +12,7 @@ pub enum Geometry {
     Cylinders,
 }
 
-// What a key says.
+// The keys, each by what it says.
 #[derive(Clone, Copy)]
 pub enum Key {
     Version,
@@ -23,42 +23,41 @@ pub enum Key {
     Geometry(Geometry),
     // Another item of the disk database
     Ddb,
-    Unknown,
 }
 
-// Which of the disk database's keys a text is.
+// Which of the disk database's keys a text is, if it is one.
 #[tactic(auto, unfolding(crate::specs::Key::geometry_key))]
-fn geometry_key(k: &[u8]) -> Key
+fn geometry_key(k: &[u8]) -> Option<Key>
     ensures { result ≡ geometry_key k.now }
 {
     if is(k, b"ddb.geometry.sectors") {
-        Key::Geometry(Geometry::Sectors)
+        Some(Key::Geometry(Geometry::Sectors))
     } else if is(k, b"ddb.geometry.heads") {
-        Key::Geometry(Geometry::Heads)
+        Some(Key::Geometry(Geometry::Heads))
     } else if is(k, b"ddb.geometry.cylinders") {
-        Key::Geometry(Geometry::Cylinders)
+        Some(Key::Geometry(Geometry::Cylinders))
     } else if starts_with(k, b"ddb.") {
-        Key::Ddb
+        Some(Key::Ddb)
     } else {
-        Key::Unknown
+        None
     }
 }
 
-// Which key a text is. A `match` on the texts proves no plainer: its last arm is reached byte by byte, in some seventy ways.
+// Which key a text is, if it is one. A `match` on the texts proves no plainer: its last arm is reached byte by byte, in some seventy ways.
 #[tactic(auto, unfolding(crate::specs::Key::key_of))]
-pub fn key_of(k: &[u8]) -> Key
+pub fn key_of(k: &[u8]) -> Option<Key>
     ensures { result ≡ key_of k.now }
 {
     if is(k, b"version") {
-        Key::Version
+        Some(Key::Version)
     } else if is(k, b"CID") {
-        Key::Cid
+        Some(Key::Cid)
     } else if is(k, b"parentCID") {
-        Key::ParentCid
+        Some(Key::ParentCid)
     } else if is(k, b"createType") {
-        Key::CreateType
+        Some(Key::CreateType)
     } else if is(k, b"parentFileNameHint") {
-        Key::ParentFileNameHint
+        Some(Key::ParentFileNameHint)
     } else {
         geometry_key(k)
     }

@@ -11,14 +11,14 @@ use Rattle.keys.specs.Key.{key_of}
 use Rattle.lines.specs.Kept.{kept_of, unquoted_of}
 use Rattle.lines.specs.Extent.{part, no_access_line, extent_line}
 use Rattle.keys.specs.declared.key.Key.{Key}
-use Rattle.keys.specs.declared.key.Key.TheVariants.{Version, Cid, ParentCid, CreateType, ParentFileNameHint, Geometry as Geometry-as-Key, Ddb, Unknown}
+use Rattle.keys.specs.declared.key.Key.TheVariants.{Version, Cid, ParentCid, CreateType, ParentFileNameHint, Geometry as Geometry-as-Key, Ddb}
 use Rattle.keys.specs.declared.key.Geometry.{Geometry}
 use Rattle.keys.specs.declared.key.Geometry.TheVariants.{Sectors, Heads, Cylinders}
 use Rattle.lines.specs.declared.line.Setting.{Setting}
 use Rattle.lines.specs.declared.line.Setting.TheVariants.{Version as Is-as-Version, Cid as Is-as-Cid, ParentCid as Is-as-ParentCid, CreateType as Is-as-CreateType, Sectors as Is-as-Sectors, Heads as Is-as-Heads, Cylinders as Is-as-Cylinders}
 use Rattle.lines.specs.declared.line.Said.TheVariants.{Nothing, Set}
 use Rattle.lines.specs.declared.line.AccessWord.{AccessWord}
-use Rattle.lines.specs.declared.line.AccessWord.TheVariants.{NoAccess, RdOnly, RW, Other}
+use Rattle.lines.specs.declared.line.AccessWord.TheVariants.{NoAccess, RdOnly, RW}
 use Rattle.lines.specs.declared.record.VmdkAccessType.TheVariants.{RdOnly as ReadOnly, RW as ReadWrite}
 use Rattle.lines.specs.declared.line.Said.{Said}
 use Rattle.lines.specs.declared.record.Fault.{Fault}
@@ -55,16 +55,16 @@ geometry_by g None = Err GeometryNumber
 unfoldable pub geometry_line : Geometry → List ℕ → Result Said Fault
 geometry_line g v = geometry_by g (geometry_of v)
 
--- what a key says of its value, which lies at the place p of the descriptor
-unfoldable pub value_of : Key → ℕ → List ℕ → Result Said Fault
-value_of Version p v = version_of v
-value_of Cid p v = Ok (Set (Is-as-Cid (kept_of p v)))
-value_of ParentCid p v = Ok (Set (Is-as-ParentCid (kept_of p v)))
-value_of CreateType p v = Ok (Set (Is-as-CreateType (unquoted_of p v)))
-value_of ParentFileNameHint p v = Err ParentHint
-value_of (Geometry-as-Key g) p v = geometry_line g v
-value_of Ddb p v = (Ok Nothing)
-value_of Unknown p v = Err OtherKey
+-- what a key says of its value, which lies at the place p of the descriptor; a text that is no key is refused
+unfoldable pub value_of : Option Key → ℕ → List ℕ → Result Said Fault
+value_of (Some Version) p v = version_of v
+value_of (Some Cid) p v = Ok (Set (Is-as-Cid (kept_of p v)))
+value_of (Some ParentCid) p v = Ok (Set (Is-as-ParentCid (kept_of p v)))
+value_of (Some CreateType) p v = Ok (Set (Is-as-CreateType (unquoted_of p v)))
+value_of (Some ParentFileNameHint) p v = Err ParentHint
+value_of (Some (Geometry-as-Key g)) p v = geometry_line g v
+value_of (Some Ddb) p v = (Ok Nothing)
+value_of None p v = Err OtherKey
 
 abbrev pub key_by : ℕ → List ℕ → Option ℕ → Result Said Fault
 key_by p t None = (Ok Nothing)
@@ -74,17 +74,17 @@ key_by p t (Some i) = value_of (key_of (trimmed (take i t))) (p + (i + 1)) (drop
 unfoldable pub key_line : ℕ → List ℕ → Result Said Fault
 key_line p t = key_by p t (find_at 0x3D t 0)
 
--- RW, RDONLY or NOACCESS
-unfoldable pub access_word : List ℕ → AccessWord
+-- RW, RDONLY or NOACCESS, if the word is one of them
+unfoldable pub access_word : List ℕ → Option AccessWord
 access_word w =
-    pick (same w (ascii "RW")) RW (pick (same w (ascii "RDONLY")) RdOnly (pick (same w (ascii "NOACCESS")) NoAccess Other))
+    pick (same w (ascii "RW")) (Some RW) (pick (same w (ascii "RDONLY")) (Some RdOnly) (pick (same w (ascii "NOACCESS")) (Some NoAccess) None))
 
 -- by the text before the first blank, which is at a place
-unfoldable pub access_line : AccessWord → ℕ → List ℕ → ℕ → Result Said Fault
-access_line NoAccess p t end = no_access_line t end
-access_line RdOnly p t end = extent_line ReadOnly p t end
-access_line RW p t end = extent_line ReadWrite p t end
-access_line Other p t end = key_line p t
+unfoldable pub access_line : Option AccessWord → ℕ → List ℕ → ℕ → Result Said Fault
+access_line (Some NoAccess) p t end = no_access_line t end
+access_line (Some RdOnly) p t end = extent_line ReadOnly p t end
+access_line (Some RW) p t end = extent_line ReadWrite p t end
+access_line None p t end = key_line p t
 
 -- where the text before the first blank ends
 abbrev pub first_blank : List ℕ → ℕ

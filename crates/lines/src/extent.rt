@@ -1,4 +1,4 @@
-// An extent line. Its refusals, 5 to 11, are tested in rising order.
+// An extent line. Its refusals, 5 to 11, are tested in rising order. (A line and the end of its first word stay two parameters, as in `second_of` and the other definitions, which the promises name; a struct of them would be taken apart in each function.)
 ghost use Rattle.std.specs.Prelude.{◌≡◌, ◌+◌, ◌≤◌, length};
 ghost use Rattle.lines.specs.Extent.{second_of, third_of, three_words, file_name_of, file_start_of, flat_line, no_access_line, extent_line};
 

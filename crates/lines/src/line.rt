@@ -5,7 +5,7 @@ ghost use Rattle.lines.specs.Line.{version_of, geometry_of, measure_of, geometry
 
 use crate::extent::{no_access_from_descriptor_line, try_from_descriptor_line};
 use crate::placed::Placed;
-use crate::record::{Fault, Text, VmdkAccessType, VmdkParsedExtent};
+use crate::record::{Fault, MOST_BYTES, Text, VmdkAccessType, VmdkParsedExtent};
 use keys::key::{Geometry, Key, key_of};
 use text::find::{find_byte, is, strip_quotes};
 use text::number::number;
@@ -37,7 +37,6 @@ pub enum AccessWord {
     NoAccess,
     RdOnly,
     RW,
-    Other,
 }
 
 // What is kept of a text: what trimming leaves.
@@ -66,12 +65,12 @@ fn keep_unquoted(t: Placed) -> Text
     }
 }
 
-// The version: a number, quotes not stripped.
+// The version: a number, quotes not stripped. (`as`: it is at most 2^32-1, so that `u32::try_from` would bring a refusal that no number has.)
 #[tactic(auto, using(crate::proofs::Lines::version_fits), unfolding(crate::specs::Line::version_of))]
 fn version(v: &[u8]) -> Result<Said, Fault>
     ensures { result ≡ version_of v.now }
 {
-    let x = number(inner(v), u32::MAX as u64).ok_or(Fault::VersionNumber)?;
+    let x = number(inner(v), u64::from(u32::MAX)).ok_or(Fault::VersionNumber)?;
     Ok(Said::Set(Setting::Version(x as u32)))
 }
 
@@ -108,7 +107,7 @@ fn geometry(g: Geometry, v: &[u8]) -> Result<Said, Fault>
 // What a key with a value says; the value lies at a place of the descriptor.
 #[tactic(auto, unfolding(crate::specs::Line::value_of))]
 fn value(k: Key, v: Placed) -> Result<Said, Fault>
-    ensures { result ≡ value_of k v.entry.place v.entry.bytes.now }
+    ensures { result ≡ value_of (Some k) v.entry.place v.entry.bytes.now }
 {
     match k {
         Key::Version => version(v.bytes),
@@ -118,56 +117,54 @@ fn value(k: Key, v: Placed) -> Result<Said, Fault>
         Key::ParentFileNameHint => Err(Fault::ParentHint),
         Key::Geometry(g) => geometry(g, v.bytes),
         Key::Ddb => Ok(Said::Nothing),
-        Key::Unknown => Err(Fault::OtherKey),
     }
 }
 
 // A line that is no extent line: a key and a value, cut at the first `=`. Without one it is ignored.
-#[tactic(auto, using(crate::proofs::Founds::founds), unfolding(crate::specs::Line::key_line))]
+#[tactic(auto, using(crate::proofs::Founds::founds), unfolding(crate::specs::Line::key_line, crate::specs::Line::value_of))]
 fn key_line(t: Placed) -> Result<Said, Fault>
     ensures { result ≡ key_line t.entry.place t.entry.bytes.now }
 {
     match find_byte(t.bytes, 0, b'=') {
         Some(i) => {
-            let k = key_of(inner(&t.bytes[..i]));
+            let k = key_of(inner(&t.bytes[..i])).ok_or(Fault::OtherKey)?;
             value(k, t.part(i + 1, t.bytes.len()))
         }
         None => Ok(Said::Nothing),
     }
 }
 
-// Which access a word is.
+// Which access a word is, if it is one.
 #[tactic(auto, unfolding(crate::specs::Line::access_word))]
-fn access_word(w: &[u8]) -> AccessWord
+fn access_word(w: &[u8]) -> Option<AccessWord>
     ensures { result ≡ access_word w.now }
 {
     if is(w, b"RW") {
-        return AccessWord::RW;
+        return Some(AccessWord::RW);
     }
     if is(w, b"RDONLY") {
-        return AccessWord::RdOnly;
+        return Some(AccessWord::RdOnly);
     }
     if is(w, b"NOACCESS") {
-        return AccessWord::NoAccess;
+        return Some(AccessWord::NoAccess);
     }
-    AccessWord::Other
+    None
 }
 
-// A line whose first word, an access or not, ends at a place of it.
+// A line whose first word, an access, ends at a place of it.
 #[tactic(auto, unfolding(crate::specs::Line::access_line))]
 fn access_line(w: AccessWord, t: Placed, end: usize) -> Result<Said, Fault>
-    ensures { result ≡ access_line w t.entry.place t.entry.bytes.now end }
+    ensures { result ≡ access_line (Some w) t.entry.place t.entry.bytes.now end }
 {
     match w {
         AccessWord::NoAccess => no_access_from_descriptor_line(t.bytes, end),
         AccessWord::RdOnly => try_from_descriptor_line(VmdkAccessType::RdOnly, t, end),
         AccessWord::RW => try_from_descriptor_line(VmdkAccessType::RW, t, end),
-        AccessWord::Other => key_line(t),
     }
 }
 
 // What a trimmed line says.
-#[tactic(auto, using(crate::proofs::Lines::run_take), unfolding(crate::specs::Line::text_line))]
+#[tactic(auto, using(crate::proofs::Lines::run_take), unfolding(crate::specs::Line::text_line, crate::specs::Line::access_line))]
 fn text_line(t: Placed) -> Result<Said, Fault>
     ensures { result ≡ text_line t.entry.place t.entry.bytes.now }
 {
@@ -181,8 +178,10 @@ fn text_line(t: Placed) -> Result<Said, Fault>
     if t.bytes.len() <= end {
         return key_line(t);
     }
-    let w = access_word(&t.bytes[..end]);
-    access_line(w, t, end)
+    match access_word(&t.bytes[..end]) {
+        Some(w) => access_line(w, t, end),
+        None => key_line(t),
+    }
 }
 
 // What a line says.
@@ -197,16 +196,12 @@ fn line_within(l: Placed) -> Result<Said, Fault>
     text_line(l.part(a, e))
 }
 
-// Parse a line in the VMDK descriptor file, which lies at a place of it. One that ends past the most bytes of a descriptor is refused.
+// Parse a line in the VMDK descriptor file, which lies at a place of it. One that ends past the most bytes of a descriptor is refused. (By `checked_add` and a `match` on the end, empty lines take 6 % more instructions.)
 #[tactic(auto, unfolding(crate::specs::Line::said_at))]
 pub fn parse_descriptor_line(l: &[u8], place: usize) -> Result<Said, Fault>
     ensures { result ≡ said_at place l.now }
 {
-    let most = 2097152;
-    if most < l.len() {
-        return Err(Fault::TooLong);
-    }
-    if most - l.len() < place {
+    if MOST_BYTES < l.len() || MOST_BYTES - l.len() < place {
         return Err(Fault::TooLong);
     }
     line_within(Placed { bytes: l, place })

@@ -1,6 +1,7 @@
 // A text of the descriptor, with its place there.
 ghost use Rattle.std.specs.Prelude.{◌≡◌, ◌+◌, ◌-◌, ◌≤◌, length, take, drop};
 ghost use Rattle.lines.specs.Kept.{kept_at};
+ghost use Rattle.lines.specs.Record.{most_bytes};
 
 use crate::record::Text;
 
@@ -9,7 +10,7 @@ use crate::record::Text;
 pub(crate) struct Placed<'a> {
     pub bytes: &'a [u8],
     pub place: usize,
-    ghost within: { place + length bytes.now ≤ 2097152 },
+    ghost within: { place + length bytes.now ≤ most_bytes },
 }
 
 impl<'a> Placed<'a> {

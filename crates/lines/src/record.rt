@@ -5,7 +5,7 @@ ghost use Rattle.lines.specs.Record.{refusal_at};
 
 use text::sector::Sectors;
 
-// A text of the descriptor: its place and its length in bytes. An empty text is place 0, length 0.
+// A text of the descriptor: its place and its length in bytes. An empty text is place 0, length 0. (No `&[u8]`: `kept_of` and the theorems speak of its place.)
 #[derive(Clone, Copy)]
 pub struct Text {
     pub place: usize,
@@ -78,7 +78,10 @@ pub struct VmdkDesc {
 // How many extents a record has room for, and rows a table: `most` of specs/.
 pub const MOST: usize = 1024;
 
-// A descriptor that was read: its values, the number of its extents, and the extents. Places past the count are no access and zeros, of line 0, in a record that was empty before it was read into.
+// The most bytes of a descriptor: `most_bytes` of specs/.
+pub const MOST_BYTES: usize = 2097152;
+
+// A descriptor that was read: its values, the number of its extents, and the extents. Places past the count are no access and zeros, of line 0, in a record that was empty before it was read into. (A count and an array: the memory is fixed, and nothing is put on a heap.)
 #[derive(Clone, Copy)]
 pub struct Record {
     pub desc: VmdkDesc,
@@ -122,7 +125,7 @@ pub enum Fault {
 }
 
 impl Fault {
-    // Document 01's number.
+    // Document 01's number. (`as`: a variant's own number has no `From`.)
     pub fn number(self) -> u8
         ensures { result ≡ refusal_number self }
     {

@@ -1,4 +1,5 @@
-// The line of a mapping.
+// The line of a mapping. `d`, `rows`, `m` and `answer` stay parameters of their own: a struct of them would be no plainer, since each contract
+// speaks of its parts one by one. A `usize` is cast, since there is no `From` for it.
 ghost use Rattle.puts.specs.Put.{Put};
 ghost use Rattle.phrases.specs.Line.{line};
 ghost use Rattle.phrases.specs.Adding.{Adds};
@@ -12,6 +13,7 @@ use tables::build::no_table;
 use tables::table::{Mapping, Row, ShallowMapping};
 
 // Puts a raw mapping's row, from its number to the line's end.
+#[tactic(auto, using(phrases::proofs::Lines::lines))]
 fn raw_row(row: u64, writable: bool, looked: u64, name: &[u8], answer: &mut Answer<'_>)
     ensures { Adds answer.old (line (row_words row writable looked name.now)) answer.new }
 {
@@ -31,6 +33,7 @@ fn zero_line(run: u64, row: u64, looked: u64, answer: &mut Answer<'_>)
 }
 
 // Puts a raw mapping's line.
+#[tactic(auto, using(phrases::proofs::Lines::fields))]
 fn raw_line(
     d: &[u8],
     rows: &[Row],
@@ -52,11 +55,11 @@ fn raw_line(
 fn refused_mapping(fault: Fault, looked: u64, answer: &mut Answer<'_>)
     ensures { Adds answer.old (line (refused_words fault looked)) answer.new }
 {
-    answer.field(b"refused", fault.number() as u64, End::Word);
+    answer.field(b"refused", u64::from(fault.number()), End::Word);
     answer.field(b"0 run 0 looked", looked, End::Line);
 }
 
-// Puts the line of what lies at the offset.
+// Puts the line of what lies at the offset; not by `Display`, since `write!` promises its bytes only where it answers `Ok`.
 fn found_line(d: &[u8], rows: &[Row], m: Mapping, found: ShallowMapping, answer: &mut Answer<'_>)
     ensures { Adds answer.old (line (found_words d.now rows.now m.run m.looked found)) answer.new }
 {
@@ -81,6 +84,7 @@ fn mapping_line(d: &[u8], rows: &[Row], m: Mapping, answer: &mut Answer<'_>)
 }
 
 // Puts the line of what a descriptor's disk has at an offset, or of its refusal.
+#[tactic(auto, using(phrases::proofs::Openings::unless_is), unfolding(crate::specs::Map::map_line_of))]
 fn map_line(d: &[u8], offset: u64, length: u64, answer: &mut Answer<'_>)
     ensures { Adds answer.old (map_line_of d.now offset length) answer.new }
 {
@@ -94,7 +98,8 @@ fn map_line(d: &[u8], offset: u64, length: u64, answer: &mut Answer<'_>)
     }
 }
 
-// Puts the line of what a descriptor's disk has at an offset.
+// Puts the line of what a descriptor's disk has at an offset. `put_walk` and `put_report` go likewise, with another text: one function for the
+// three would take a closure, with a contract over every text and a proof at each caller, and be no plainer than three lines.
 pub fn put_map(d: &[u8], offset: u64, length: u64, out: &mut [u8]) -> usize
     ensures { Put out.old 0 (map_line_of d.now offset length) result out.new }
 {

@@ -13,7 +13,7 @@ pub(crate) struct Hit {
     pub looked: usize,
 }
 
-// The row that holds an offset, among those that the table counts. (std's `binary_search_by` does not say how many rows it looks at, which is a part of the answer.)
+// The row that holds an offset, among those that the table counts. (A loop of two indices: std's `binary_search_by` does not say how many rows it looks at, which is a part of the answer.)
 pub(crate) fn search(t: &Table, offset: u64) -> Hit
     requires { t.now.count ≤ most }
     ensures { result ≡ hit_of (search_of t.now offset) }

@@ -35,7 +35,7 @@ fn may_write(access: VmdkAccessType) -> bool
     matches!(access, VmdkAccessType::RW)
 }
 
-// What the row's source has, at a place within the row.
+// What the row's source has, at a place within the row. (The parameters are those of `sourced`, which the promise names.)
 fn by_source(source: Source, row: usize, within: u64, run: u64, looked: usize) -> Mapping
     ensures { result ≡ sourced source row within run looked }
 {

@@ -7,7 +7,7 @@ use crate::mapping;
 use lines::record::{Fault, MOST};
 use tables::table::{Piece, PieceSource, ShallowMapping, Stop, Table, Walked};
 
-// A zero piece: its file offset is 0, and it is not writable.
+// A zero piece: its file offset is 0, and it is not writable. (It stands beside `raw_piece`, as in specs/: one function of both would take a source that its other arguments already say. A row and a run stay two, there too: a struct of two numbers would be no plainer.)
 fn zero_piece(start: u64, run: u64, row: usize) -> Piece
     ensures { result ≡ zero_piece start run row }
 {
@@ -28,7 +28,7 @@ pub fn no_piece() -> Piece
     zero_piece(0, 0, 0)
 }
 
-// No piece in any place: what a caller makes once, to lend. It has as many places as a walk may write.
+// No piece in any place: what a caller makes once, to lend. It has as many places as a walk may write. (Its twins are descriptor's `no_extents` and tables' `no_rows`: one function for the three would be `[x; MOST]` by another name.)
 #[tactic(auto, unfolding(crate::specs::Walk::no_pieces))]
 pub fn no_pieces() -> [Piece; MOST]
     ensures { result ≡ no_pieces }
@@ -62,7 +62,7 @@ fn ended(stop: Result<Stop, Fault>, count: usize, position: u64, looked: usize) 
     }
 }
 
-// The walk from a position on, with room for so many pieces. Before each step, in order: nothing left, or the position at or past the size, Done; no room, More.
+// The walk from a position on, with room for so many pieces. Before each step, in order: nothing left, or the position at or past the size, Done; no room, More. A step is as long as its run, so the loop goes by the position.
 fn walk_from(t: &Table, list: &mut [Piece], room: usize, mut pos: u64, mut left: u64) -> Walked
     requires { (room ≤ most) × (room ≤ len list.old) }
     ensures { (result ≡ walked (walk_from room t.now pos left)) × (list.new ≡ listed (walk_from room t.now pos left) list.old) }
@@ -98,7 +98,7 @@ fn walk_from(t: &Table, list: &mut [Piece], room: usize, mut pos: u64, mut left:
     ended(stop, count, pos, looked)
 }
 
-// The walk, with at most so many of the list's places, and at most `MOST`. A table that says more rows is refused first.
+// The walk, with at most so many of the list's places, and at most `MOST`. (Table and list stay two parameters, here and above, as the public `walk` has them.) A table that says more rows is refused first.
 pub fn walk_in(t: &Table, list: &mut [Piece], places: usize, at: u64, length: u64) -> Walked
     ensures { (result ≡ walked (walk_of t.now (min places (len list.old)) at length)) × (list.new ≡ listed (walk_of t.now (min places (len list.old)) at length) list.old) }
 {

@@ -1,11 +1,10 @@
 -- A descriptor is opened by reading it and building what was read: the first refusal stands. The record that was read into builds as the one that is read.
 -- Assumes nothing.
 use Prim.Native.Nat.{ℕ}
-use native.Mathlib.Omega.{arith}
 use mathlib.Core.List.{List}
 use mathlib.Core.Path.{◌≡◌, refl, sym}
 use borrow.Author.Rules.{rules}
-use Rattle.std.specs.Prelude.{Ok, Err}
+use Rattle.std.specs.Prelude.{Result, Ok, Err, ⊤}
 use Rattle.lines.specs.declared.record.Record.{Record}
 use Rattle.lines.specs.declared.record.Refusal.{Refusal}
 use Rattle.descriptor.specs.Read.{read_of}
@@ -16,7 +15,7 @@ use Rattle.tables.specs.Into.{build_into}
 use Rattle.tables.specs.declared.table.Table.{Table}
 use Rattle.tables.proofs.Into.{into_empty, build_same, into_same}
 use Rattle.phrases.specs.Line.{refused_line}
-use Rattle.phrases.specs.Opening.{version_or, opened, open_of, open_into, unless}
+use Rattle.phrases.specs.Opening.{Opened, version_or, opened, open_of, open_into, unless}
 use Rattle.lines.specs.Record.{Verdict}
 
 -- what was read into any record builds as what is read
@@ -61,24 +60,23 @@ module _ (d : List ℕ) {x : Record} (z : Record) (e : (Ok tt) ≡ (read_of d).v
 pub ruleset opens = (read_refused, read_left, built_sound, built_refused, rules)
 
 -- ---- what opening tells of the definition
-module _ (d : List ℕ) where
-  pub unless_ok : (text : List ℕ) {version : ℕ} → Ok version ≡ opened (open_of d) → unless (open_of d).verdict text ≡ text
-  unless_ok text {version} e = by_ok (open_of d).verdict (open_of d).version e
-    where
-      by_ok : (v : Verdict) (n : ℕ) → Ok version ≡ version_or v n → unless v text ≡ text
-      by_ok (Ok tt) n e = refl
-      by_ok (Err k) n e = let z : ◌≡◌ {A = ℕ} 0 1 = cc in absurd (omega arith)
+-- a text where there is a version, and else the line of the refusal
+abbrev pub or_refused : Result ℕ Refusal → List ℕ → List ℕ
+or_refused (Ok version) text = text
+or_refused (Err r) text = refused_line r
 
-  pub unless_err : (text : List ℕ) {x : Refusal} → Err x ≡ opened (open_of d) → unless (open_of d).verdict text ≡ refused_line x
-  unless_err text {x} e = by_err (open_of d).verdict (open_of d).version e
-    where
-      by_err : (v : Verdict) (n : ℕ) → Err x ≡ version_or v n → unless v text ≡ refused_line x
-      by_err (Ok tt) n e = let z : ◌≡◌ {A = ℕ} 0 1 = cc in absurd (omega arith)
-      by_err (Err k) n e = cc
+pub unless_is : (o : Opened) (text : List ℕ) → unless o.verdict text ≡ or_refused (opened o) text
+unless_is o text = by_verdict o.verdict o.version
+  where
+    by_verdict : (v : Verdict) (n : ℕ) → unless v text ≡ or_refused (version_or v n) text
+    by_verdict (Ok tt) n = refl
+    by_verdict (Err k) n = refl
 
-  pub version_is : {version : ℕ} → Ok version ≡ opened (open_of d) → version ≡ (open_of d).version
-  version_is {version} e = by_ok (open_of d).verdict (open_of d).version e
-    where
-      by_ok : (v : Verdict) (n : ℕ) → Ok version ≡ version_or v n → version ≡ n
-      by_ok (Ok tt) n e = cc
-      by_ok (Err k) n e = let z : ◌≡◌ {A = ℕ} 0 1 = cc in absurd (omega arith)
+-- the version that is answered is the one that was read
+abbrev pub by_version : Result ℕ Refusal → ℕ → Type 0
+by_version (Ok m) n = m ≡ n
+by_version (Err r) n = ⊤
+
+pub version_is : (v : Verdict) (n : ℕ) → by_version (version_or v n) n
+version_is (Ok tt) n = refl
+version_is (Err r) n = tt

@@ -36,7 +36,8 @@ pub struct Answer<'a> {
 }
 
 impl<'a> Answer<'a> {
-    // Puts a word and its end.
+    // Puts a word and its end. `word` and `number` stay two: a trait over texts and numbers would be no plainer than their two lines.
+    #[tactic(auto, using(crate::proofs::Lines::words))]
     pub fn word(&mut self, w: &[u8], end: End)
         ensures { Adds self.old (closed end w.now) self.new }
     {
@@ -45,6 +46,7 @@ impl<'a> Answer<'a> {
     }
 
     // Puts a number and its end.
+    #[tactic(auto, using(crate::proofs::Lines::words))]
     pub fn number(&mut self, n: u64, end: End)
         ensures { Adds self.old (closed end (decimal_of n)) self.new }
     {
@@ -53,6 +55,7 @@ impl<'a> Answer<'a> {
     }
 
     // Puts a word, and then a number and its end.
+    #[tactic(auto, using(crate::proofs::Lines::words))]
     pub fn field(&mut self, w: &[u8], n: u64, end: End)
         ensures { Adds self.old (closed_field end w.now n) self.new }
     {
@@ -60,16 +63,18 @@ impl<'a> Answer<'a> {
         self.number(n, end);
     }
 
-    // Puts the line of a refusal.
+    // Puts the line of a refusal. The second number is cast: there is no `From` for a `usize`.
+    #[tactic(auto, using(crate::proofs::Lines::lines), unfolding(crate::specs::Line::refused_line))]
     pub fn refused_line(&mut self, x: Refusal)
         ensures { Adds self.old (refused_line x) self.new }
     {
-        self.field(b"refused", x.fault.number() as u64, End::Word);
+        self.field(b"refused", u64::from(x.fault.number()), End::Word);
         self.number(x.second as u64, End::Line);
     }
 }
 
 // The bytes of a text of the descriptor, as far as they are there.
+#[tactic(auto, using(crate::proofs::Lines::names), unfolding(crate::specs::Line::name_in))]
 pub fn name(d: &[u8], t: Text) -> &[u8]
     ensures { result.now ≡ name_in d.now t }
 {
@@ -77,7 +82,7 @@ pub fn name(d: &[u8], t: Text) -> &[u8]
     &rest[..t.length.min(rest.len())]
 }
 
-// How an extent may be accessed, as a word.
+// How an extent may be accessed, as a word; not by `Display`, since `write!` promises its bytes only where it answers `Ok`.
 pub fn access(a: VmdkAccessType) -> &'static [u8]
     ensures { result.now ≡ access_word a }
 {

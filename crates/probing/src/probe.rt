@@ -1,8 +1,10 @@
 // Probing: whether some bytes may be a descriptor.
 ghost use Rattle.std.specs.Prelude.{◌≡◌, ◌≤◌, ◌<◌, length};
+ghost use Rattle.lines.specs.Record.{most_bytes};
 ghost use Rattle.probing.specs.Probe.{verdict_of, probe_key, probe_line, probe_of};
 ghost use Rattle.probing.specs.inside.Places.{probe_at};
 
+use lines::record::MOST_BYTES;
 use text::find::{find_byte, is, line_end, starts_with};
 use text::number::number;
 use text::words::{inner, trim};
@@ -23,7 +25,7 @@ fn probe_key(l: &[u8], i: usize) -> Option<bool>
     let key = inner(&l[..i]);
     if is(key, b"version") {
         let value = inner(&l[i + 1..]);
-        return Some(supported(number(value, u32::MAX as u64)));
+        return Some(supported(number(value, u64::from(u32::MAX))));
     }
     None
 }
@@ -43,9 +45,10 @@ fn probe_line(l: &[u8]) -> Option<bool>
     probe_key(l, i)
 }
 
-// The lines one after the other: the first that answers.
+// The lines one after the other: the first that answers. A line is as long as it is, so the loop goes by the place.
+#[tactic(auto, using(crate::proofs::Probing::probing))]
 fn probe_lines(d: &[u8]) -> bool
-    requires { length d.now ≤ 2097152 }
+    requires { length d.now ≤ most_bytes }
     ensures { result ≡ probe_at d.now 0 }
 {
     let mut at = 0;
@@ -69,7 +72,7 @@ pub fn probe(d: &[u8]) -> bool
     if d.len() < 4 {
         return false;
     }
-    if 2097152 < d.len() {
+    if MOST_BYTES < d.len() {
         return false;
     }
     if starts_with(d, b"KDMV") {

@@ -2,15 +2,12 @@
 -- Assumes nothing.
 use Prim.Native.Nat.{ℕ, zero, suc, ◌/◌, ◌%◌, ◌≤◌, ◌<◌}
 use native.Mathlib.Omega.{arith}
-use mathlib.Core.List.{List, [], ◌∷◌, ◌++◌}
+use mathlib.Core.List.{[], ◌∷◌, ◌++◌}
 use mathlib.Core.Path.{◌≡◌, refl}
-use borrow.Author.Rules.{rules}
 use borrow.Author.Tests.{lt-ltb, le-ltb, ltb-false}
 use lib.Dec.{ltb}
 use Rattle.text.proofs.Flat.{by_test}
-use Rattle.puts.specs.Put.{Put}
 use Rattle.puts.specs.Decimal.{digit, digits_in, decimal_of}
-use Rattle.puts.proofs.Puts.{put_then, put_length}
 
 -- more room for tens changes nothing
 room_free : (k m n : ℕ) → n ≤ k → n ≤ m → digits_in k n ≡ digits_in m n
@@ -35,12 +32,4 @@ unfolding decimal_of digits_in
 decimal_tens zero h = absurd (omega arith)
 decimal_tens (suc n) h = rw (le-ltb (suc n) 10 h, room_free n (suc n / 10) (suc n / 10) (omega arith) (omega arith))
 
--- Rules of `put_decimal`
-module _ {o q : List ℕ} {at r : ℕ} (n : ℕ) where
-  pub decimal_one : n < 10 → Put o at (digit (n % 10) ∷ []) r q → Put o at (decimal_of n) r q
-  decimal_one h k = rw (decimal_low n h) k
-
-  pub decimal_more : {p : ℕ} {t : List ℕ} → 10 ≤ n → Put o at (decimal_of (n / 10)) p t → Put t p (digit (n % 10) ∷ []) r q → Put o at (decimal_of n) r q
-  decimal_more h k l = rw (decimal_tens n h) (put_then k l)
-
-pub ruleset decimals = (decimal_one, decimal_more, put_length, rules)
+pub ruleset decimals = (decimal_low, decimal_tens)

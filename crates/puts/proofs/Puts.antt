@@ -2,26 +2,24 @@
 -- Assumes nothing.
 use Prim.Native.Nat.{ℕ, zero, suc, ◌+◌, ◌≤◌, ◌<◌, ◌^◌, min}
 use native.Mathlib.Omega.{arith}
-use native.Mathlib.Numerals.{add-one}
 use mathlib.Core.List.{List, [], ◌∷◌, ◌++◌}
 use mathlib.Core.Path.{◌≡◌, refl, sym, ap, ◌∙◌}
-use lib.ListN.{length, get_or, take, drop, set, length-append}
-use lib.Seq.{take-suc, take_all, take-append_seam}
+use lib.ListN.{length, take, drop, set, length-append}
+use lib.Seq.{take-append_seam}
 use lib.Dec.{leb}
-use borrow.Author.Rules.{rules}
 use borrow.Author.Tests.{leb-true, leb-false}
 use Rattle.text.specs.Sector.{largest}
 use Rattle.text.proofs.Flat.{by_test}
 use Rattle.puts.specs.Put.{pasted, after, Put}
 
 -- ---- a buffer with a text at a place
-pasted_none : (o : List ℕ) (at : ℕ) → pasted o at [] ≡ o
+pub pasted_none : (o : List ℕ) (at : ℕ) → pasted o at [] ≡ o
 unfolding pasted
 pasted_none [] at = refl
 pasted_none (b ∷ r) zero = refl
 pasted_none (b ∷ r) (suc at) = rw (pasted_none r at)
 
-pasted_past : (o : List ℕ) (at : ℕ) (x : List ℕ) → length o ≤ at → pasted o at x ≡ o
+pub pasted_past : (o : List ℕ) (at : ℕ) (x : List ℕ) → length o ≤ at → pasted o at x ≡ o
 unfolding pasted
 pasted_past [] at x h = refl
 pasted_past (b ∷ r) zero x h = absurd (omega arith)
@@ -34,7 +32,7 @@ pasted_length (b ∷ r) (suc at) x = rw (pasted_length r at x)
 pasted_length (b ∷ r) zero [] = refl
 pasted_length (b ∷ r) zero (c ∷ x) = rw (pasted_length r zero x)
 
-pasted_byte : (o : List ℕ) (at b : ℕ) → at < length o → pasted o at (b ∷ []) ≡ set o at b
+pub pasted_byte : (o : List ℕ) (at b : ℕ) → at < length o → pasted o at (b ∷ []) ≡ set o at b
 unfolding pasted
 pasted_byte [] at b h = absurd (omega arith)
 pasted_byte (c ∷ r) zero b h = rw (pasted_none r zero)
@@ -96,39 +94,15 @@ put_then {o} {q} {s} {x} {y} {at} {p} {r} h k =
       room = h.room;
     }
 
--- the buffer keeps its length
-pub put_length : {o q x : List ℕ} {at r : ℕ} → Put o at x r q → length q ≡ length o
-put_length {o} {q} {x} {at} h = rw h.bytes (pasted_length o at x)
+-- the same, of what is left and of the place after it
+pub pasted_twice : (o x y : List ℕ) (at : ℕ) → length o ≤ largest → pasted o at (x ++ y) ≡ pasted (pasted o at x) (after at x) y
+pasted_twice o x y at l = rw (pasted_clip (pasted o at x) (at + length x) y (rw (pasted_length o at x) l)) (sym (pasted_join o at x y))
+
+pub after_twice : (at : ℕ) (x y : List ℕ) → after at (x ++ y) ≡ after (after at x) y
+after_twice at x y = rw length-append (omega arith)
 
 -- Rules of `put_byte`
-module _ (o : List ℕ) (at b : ℕ) (l : length o < 2 ^ 64) where
-  pub byte_in : at < length o → Put o at (b ∷ []) (at + 1) (set o at b)
-  byte_in h = record { place = omega arith; bytes = sym (pasted_byte o at b h); room = omega arith }
+pub ruleset bytes_put = (pasted_byte, pasted_past)
 
-  pub byte_end : length o ≤ at → at ≡ largest → Put o at (b ∷ []) at o
-  byte_end h e = record { place = omega arith; bytes = sym (pasted_past o at (b ∷ []) h); room = omega arith }
-
-  pub byte_past : length o ≤ at → at < 2 ^ 64 → (at ≡ largest → ⊥) → Put o at (b ∷ []) (at + 1) o
-  byte_past h f e = record { place = omega arith; bytes = sym (pasted_past o at (b ∷ []) h); room = omega arith }
-
-pub ruleset bytes_put = (byte_in, byte_end, byte_past, rules)
-
--- the first bytes of a text, up to a place
-unfoldable pub up_to : List ℕ → ℕ → List ℕ
-up_to s i = take i s
-
--- Rules of `put`
-pub text_start : (o : List ℕ) (at : ℕ) (s : List ℕ) → length o < 2 ^ 64 → at < 2 ^ 64 → Put o at (up_to s 0) at o
-unfolding up_to
-text_start o at s h f = put_none o at h f
-
-module _ {o q : List ℕ} {at p : ℕ} (s : List ℕ) (i : ℕ) (h : Put o at (up_to s i) p q) where
-  pub text_more : {r : ℕ} {t : List ℕ} → i < length s → Put q p (get_or s i 0 ∷ []) r t → Put o at (up_to s (i + 1)) r t
-  unfolding up_to
-  text_more l k = rw (add-one, take-suc s i 0 l) (put_then h k)
-
-  pub text_end : length s ≤ i → Put o at s p q
-  unfolding up_to
-  text_end l = rw (take_all i s l) at h
-
-pub ruleset texts_put = (text_start, text_more, text_end, put_length, rules)
+-- Rules of `put` and `put_decimal`
+pub ruleset joins = (pasted_none, pasted_twice, after_twice)

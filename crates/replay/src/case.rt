@@ -1,4 +1,4 @@
-// One case: a descriptor and its queries.
+// One case: a descriptor and its queries. (What is written to, the case's bytes and the table stand side by side: a struct of the three would be taken apart in each function.)
 use crate::{line, out};
 use descriptor::empty::no_record;
 use descriptor::read::parse_descriptor_file;
@@ -9,7 +9,7 @@ use std::io;
 use tables::build::{build, no_table};
 use tables::table::{Piece, Table, Walked};
 
-// A query, with the first number as the case file has it: 0 for a map, a walk otherwise.
+// A query, with the first number as the case file has it (FORMAT.md): 0 for a map, a walk otherwise.
 #[derive(Drop)]
 struct Query {
     what: u8,
@@ -66,7 +66,7 @@ fn reply(rt: &impl Print, c: &[u8], t: &Table, q: Query) -> io::Result<()> {
         return out::line(rt, c, line::mapping(t, m));
     }
     let mut pieces = no_pieces();
-    let w = walk_in(t, &mut pieces, places as usize, offset, length);
+    let w = walk_in(t, &mut pieces, usize::from(places), offset, length);
     walk(rt, c, t, w, &pieces)
 }
 

@@ -4,7 +4,7 @@ use tables::table::{
     Mapping, Piece, PieceSource, Row, ShallowMapping, Source, Stop, Table, Walked,
 };
 
-// A line: its letter, its numbers, and a text of the descriptor.
+// A line: its letter, its numbers, and a text of the descriptor. (Letters, not an enum: FORMAT.md has them, and a line is written as it is.)
 #[derive(Clone, Copy)]
 pub(crate) struct Line {
     pub letter: u8,
@@ -28,19 +28,16 @@ fn bare(letter: u8, a: u64, b: u64, c: u64, d: u64, e: u64) -> Line {
 
 // An access as a number: 1 where the row may be written.
 fn writable(a: VmdkAccessType) -> u64 {
-    match a {
-        VmdkAccessType::RW => 1,
-        VmdkAccessType::RdOnly => 0,
-    }
+    u64::from(matches!(a, VmdkAccessType::RW))
 }
 
-// The start of a case: its number, whether it may be a descriptor, and the refusal's two numbers.
+// The start of a case: its number, whether it may be a descriptor, and the refusal's two numbers. (`as` here and below: a usize has no `From` to u64.)
 pub(crate) fn case(k: u64, probed: bool, v: Verdict) -> Line {
-    let p = probed as u64;
-    match v {
-        Ok(()) => bare(b'c', k, p, 0, 0, 0),
-        Err(r) => bare(b'c', k, p, r.fault.number() as u64, r.second as u64, 0),
-    }
+    let (fault, second) = match v {
+        Ok(()) => (0, 0),
+        Err(r) => (u64::from(r.fault.number()), r.second as u64),
+    };
+    bare(b'c', k, u64::from(probed), fault, second, 0)
 }
 
 // A row of a table, with its line.
@@ -57,10 +54,7 @@ pub(crate) fn row(r: &Row) -> Line {
 
 // The file name of row i.
 fn name(t: &Table, i: usize) -> Text {
-    match t.rows.get(i) {
-        Some(r) => row(r).text,
-        None => Text::NONE,
-    }
+    t.rows.get(i).map_or(Text::NONE, |r| row(r).text)
 }
 
 // The values of a descriptor and its table.
@@ -68,7 +62,7 @@ pub(crate) fn head(v: VmdkDesc, t: &Table) -> [Line; 3] {
     [
         full(
             b'v',
-            v.version as u64,
+            u64::from(v.version),
             v.sectors,
             v.heads,
             v.cylinders,
@@ -91,14 +85,13 @@ pub(crate) fn head(v: VmdkDesc, t: &Table) -> [Line; 3] {
 // What lies at an offset; the text is the file name of its row.
 pub(crate) fn mapping(t: &Table, m: Mapping) -> Line {
     let looked = m.looked as u64;
-    let s = m.mapping;
-    match s {
+    match m.mapping {
         Ok(ShallowMapping::Eof) => bare(b'e', m.run, looked, 0, 0, 0),
-        Err(fault) => bare(b'x', m.run, looked, fault.number() as u64, 0, 0),
+        Err(fault) => bare(b'x', m.run, looked, u64::from(fault.number()), 0, 0),
         Ok(ShallowMapping::Zero(i)) => bare(b'z', m.run, looked, i as u64, 0, 0),
         Ok(ShallowMapping::Raw(i, offset, w)) => {
             let text = name(t, i);
-            full(b'r', m.run, looked, i as u64, w as u64, offset, text)
+            full(b'r', m.run, looked, i as u64, u64::from(w), offset, text)
         }
     }
 }
@@ -114,7 +107,7 @@ pub(crate) fn piece(t: &Table, x: Piece) -> Line {
         x.start,
         x.run,
         x.row as u64,
-        x.writable as u64,
+        u64::from(x.writable),
         x.file_offset,
         name(t, x.row),
     )
@@ -122,12 +115,18 @@ pub(crate) fn piece(t: &Table, x: Piece) -> Line {
 
 // The end of a walk.
 pub(crate) fn end(w: Walked) -> Line {
-    let s = w.stop;
     let count = w.count as u64;
     let looked = w.looked as u64;
-    match s {
+    match w.stop {
         Ok(Stop::Done) => bare(b'd', w.position, count, looked, 0, 0),
         Ok(Stop::More) => bare(b'm', w.position, count, looked, 0, 0),
-        Err(fault) => bare(b'w', w.position, count, looked, fault.number() as u64, 0),
+        Err(fault) => bare(
+            b'w',
+            w.position,
+            count,
+            looked,
+            u64::from(fault.number()),
+            0,
+        ),
     }
 }

@@ -11,7 +11,7 @@ use input::read_full;
 use std::io;
 use std::io::Read;
 
-// Room for a case: a descriptor of two bytes more than the longest that is read, and 255 queries of 19 bytes.
+// Room for a case: a descriptor of two bytes more than the longest that is read, and 255 queries of 19 bytes. (`report` has such arrays of other lengths: a function for all of them would be `[0; N]` by another name.)
 fn space() -> [u8; 2102000]
     ensures { 2102000 ≡ length result }
 {
@@ -27,7 +27,7 @@ fn fill(from: &mut impl Read, part: Option<&mut [u8]>) -> io::Result<bool> {
     Ok(read_full(from, part)? == n)
 }
 
-// Reads the next case and answers how many bytes its descriptor has, or none where there is no whole case.
+// Reads the next case and answers how many bytes its descriptor has, or none where there is no whole case. (`as`: a u32 has no `From` to usize.)
 fn read_case(from: &mut impl Read, c: &mut [u8]) -> io::Result<Option<usize>> {
     let mut length = [0; 4];
     if !fill(from, Some(&mut length))? {
@@ -45,7 +45,7 @@ fn read_case(from: &mut impl Read, c: &mut [u8]) -> io::Result<Option<usize>> {
 
 // Case after case, up to a number that no file reaches.
 fn run(rt: &impl Print, from: &mut impl Read, c: &mut [u8]) -> io::Result<()> {
-    for k in 0..4294967295 {
+    for k in 0..u64::from(u32::MAX) {
         let Some(n) = read_case(from, c)? else {
             break;
         };

@@ -18,7 +18,7 @@ fn place(rt: &impl Print, b: &[u8], at: usize) -> io::Result<usize> {
     Ok(0)
 }
 
-// A space and a number.
+// A space and a number. (Buffer and place stand side by side, as `put_byte` and `put_decimal` take them.)
 fn number(rt: &impl Print, b: &mut [u8], at: usize, n: u64) -> io::Result<usize> {
     let p = place(rt, b, at)?;
     let q = put_byte(b, p, 0x20);
@@ -40,7 +40,7 @@ fn fill(rt: &impl Print, b: &mut [u8], c: &[u8], l: Line) -> io::Result<usize> {
     Ok(put_byte(b, at, 0x0a))
 }
 
-// Writes a line of an answer; its text is one of the case's descriptor. (By way of an array: std's `BufWriter` takes heap.)
+// Writes a line of an answer; its text is one of the case's descriptor. (By way of an array, with the place in it: std's `BufWriter` takes heap.)
 pub(crate) fn line(rt: &impl Print, c: &[u8], l: Line) -> io::Result<()> {
     let mut b = [0; 1024];
     let n = fill(rt, &mut b, c, l)?;

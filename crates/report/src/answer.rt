@@ -21,7 +21,7 @@ pub type InputSpace = [u8; 65537];
 // Room for any answer: that no answer is longer is a theorem (`answer_fits`).
 pub type AnswerSpace = [u8; 172032];
 
-// Room for the input, blank.
+// Room for the input, blank. `input_space` and `answer_space` stay two: their promises name `most_input` and `room`.
 pub fn input_space() -> InputSpace
     ensures value { result ≡ replicate (most_input + 1) 0 }
     ensures most_input_value { most_input + 1 ≡ length result }

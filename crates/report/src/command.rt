@@ -18,7 +18,7 @@ pub enum Command {
     Map(u64, u64),
     // The pieces from an offset on, for at most a length, at most so many
     Walk(u64, u64, usize),
-    // Nothing that it knows
+    // Nothing that it knows; a case of `Command` and not a `None`, since `answer_of` says what is answered to it, and `read_command` promises it
     Usage,
 }
 
@@ -30,14 +30,15 @@ fn range(a: &[u8], b: &[u8]) -> Option<(u64, u64)>
     Some((number(a, u64::MAX)?, number(b, u64::MAX)?))
 }
 
-// PLACES: 0 to as many as a walk can write.
+// PLACES: 0 to as many as a walk can write. `MOST` is cast, since there is no `From` for a `usize`.
 fn places(c: &[u8]) -> Option<usize>
     ensures { result ≡ number_of most c.now }
 {
-    Some(number(c, MOST as u64)? as usize)
+    usize::try_from(number(c, MOST as u64)?).ok()
 }
 
-// What n arguments ask, the first of which is the mode, if it is anything that is known.
+// What n arguments ask, the first of which is the mode, if it is anything that is known. The texts stay beside each other, as the public
+// signature of `read_command` has them.
 #[tactic(auto, unfolding(crate::specs::Command::command_of, crate::specs::Command::places_of))]
 fn known(n: usize, mode: &[u8], a: &[u8], b: &[u8], c: &[u8]) -> Option<Command>
     ensures { or_usage result ≡ command_of n mode.now a.now b.now c.now }

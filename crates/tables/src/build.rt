@@ -1,4 +1,4 @@
-// Building the extent table: rows follow each other from 0, one for each extent. The record and the table are lent.
+// Building the extent table: rows follow each other from 0, one for each extent. The record and the table are lent. (Line, start and end stay three parameters, as in `open_source`, which the promise names.)
 ghost use Rattle.std.specs.Prelude.{◌≡◌, [], length, IfOk};
 ghost use Rattle.lines.specs.Record.{filled, read_in};
 ghost use Rattle.tables.specs.Build.{row_of, no_row, no_table, build_of};
@@ -32,7 +32,7 @@ pub fn no_row() -> Row
     row(0, 0, 0, Source::NoAccess)
 }
 
-// No row in any place.
+// No row in any place. (Likewise `no_extents` of descriptor and `no_pieces` of maps; one function for the three would be `[x; MOST]` by another name.)
 fn no_rows() -> [Row; MOST]
     ensures { result ≡ filled no_row [] }
 {

@@ -2,7 +2,7 @@
 use lines::record::{Fault, MOST, Text, VmdkAccessType};
 use text::sector::Bytes;
 
-// Where a row's bytes come from.
+// Where a row's bytes come from. (`VmdkParsedStorage` is its twin on purpose: it holds sectors as they were read, this one bytes as they were built.)
 #[derive(Clone, Copy)]
 pub enum Source {
     // No access
@@ -22,7 +22,7 @@ pub struct Row {
     pub line: usize,
 }
 
-// The disk's size and the rows. Places past the count are no access and zeros, of line 0, in a table that was empty before it was built.
+// The disk's size and the rows. Places past the count are no access and zeros, of line 0, in a table that was empty before it was built. (A count and an array: the memory is fixed, and nothing is put on a heap.)
 #[derive(Clone, Copy)]
 pub struct Table {
     pub size: Bytes,

@@ -20,15 +20,14 @@ pub(crate) fn past_blocks<F: Fn(u8) -> bool>(t: &[u8], passes: F) -> usize
     ensures inside { result ≤ length t.now }
     ensures passed { Passing (F.post passes) result t.now }
 {
-    let mut at = 0;
-    while let Some(block) = t[at..].first_chunk::<16>() {
+    let (blocks, _) = t.as_chunks::<16>();
+    for (i, block) in blocks.iter().enumerate() {
         if !all_pass(block, &passes) {
-            return at;
+            return i * 16;
         }
-        at += 16;
     }
     match t.last_chunk::<16>() {
         Some(block) if all_pass(block, &passes) => t.len(),
-        _ => at,
+        _ => blocks.len() * 16,
     }
 }

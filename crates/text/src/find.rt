@@ -1,4 +1,4 @@
-// Finding a byte, telling two texts apart, and what stands between quotes.
+// Finding a byte, telling two texts apart, and what stands between quotes. (A text and a place in it stay two parameters, as `find_at` and `line_end`, which the public promises name, have them.)
 ghost use Rattle.std.specs.Prelude.{◌≡◌};
 ghost use Rattle.text.specs.Find.{find_from, find_at, line_end, same, begins, strip_of};
 
@@ -45,7 +45,7 @@ pub fn starts_with(t: &[u8], k: &[u8]) -> bool
     t.starts_with(k)
 }
 
-// The part of a text within its quotes, or all of it where it is not in quotes: where it starts, and where it ends.
+// The part of a text within its quotes, or all of it where it is not in quotes: where it starts, and where it ends. (Places, as in `strip_of`, which the promise names: `lines` keeps them.)
 #[tactic(auto, unfolding(crate::specs::Find::strip_of))]
 pub fn strip_quotes(t: &[u8]) -> (usize, usize)
     ensures { result ≡ strip_of t.now }

@@ -3,7 +3,7 @@ ghost use Rattle.std.specs.Prelude.{◌≡◌, ◌+◌, ◌-◌, ◌*◌, None};
 ghost use Rattle.text.specs.Ranges.{pick};
 ghost use Rattle.text.specs.Number.{digit, up_to, digits_of, number_of};
 
-// The number with a digit more, if the byte is one and the number is at most limit.
+// The number with a digit more, if the byte is one and the number is at most limit. (By hand: std's `parse` takes no limit, and no bytes that may not be UTF-8.)
 fn with_digit(v: u64, b: u8, limit: u64) -> Option<u64>
     ensures { result ≡ pick (digit b) (up_to limit (v * 10 + (b - 0x30))) None }
 {

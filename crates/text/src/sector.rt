@@ -1,4 +1,4 @@
-// Sectors and bytes: two kinds of number, and the one way from the first to the second.
+// Sectors and bytes: two kinds of number on purpose, so that neither stands for the other, and the one way from the first to the second.
 ghost use Rattle.std.specs.Prelude.{◌≡◌};
 ghost use Rattle.text.specs.Sector.{sectors_in, bytes_upto, sectors_of, bytes_of};
 
@@ -39,6 +39,7 @@ impl Sectors {
     }
 
     // The bytes that so many sectors have, if they are at most 2^64-1.
+    #[tactic(auto, using(crate::proofs::Sectors::sectors))]
     pub fn bytes(self) -> Option<Bytes>
         ensures { result ≡ bytes_of self }
     {

@@ -7,7 +7,7 @@ ghost use Rattle.text.specs.inside.Places.{cap};
 // What a first byte says: how many bytes follow, the range of the first of them, and below what its own bits are.
 pub(crate) type Lead = (usize, u8, u8, u8);
 
-// What stands at a place: a character with its code point and its width in bytes.
+// What stands at a place: a character with its code point and its width in bytes. (No Option or Result: bytes that are no character and the end are two answers, which the definitions of specs/ tell apart.)
 #[derive(Clone, Copy)]
 pub enum Char {
     Scalar(u32, usize),
@@ -59,7 +59,7 @@ fn tail(t: &[u8], n: usize, mut lo: u8, mut hi: u8, mut code: u32) -> Char
     Char::Scalar(code, n + 1)
 }
 
-// The character that starts at a place.
+// The character that starts at a place. (`t` and `at` stay two, as in `char_at`, which the promise names.)
 #[tactic(auto, using(crate::proofs::Chars::chars))]
 pub fn next_char(t: &[u8], at: usize) -> Char
     ensures { result ≡ char_at t.now at }

@@ -1,4 +1,4 @@
-// Whether a text is UTF-8, with runs of bytes below 80 passed over in blocks.
+// Whether a text is UTF-8, with runs of bytes below 80 passed over in blocks. (`t` and `at` stay two, and a place within the text a clause: the promises speak of `char_at t at`, and a struct of them would be no plainer.)
 ghost use Rattle.std.specs.Prelude.{◌≡◌, ◌<◌, true, length};
 ghost use Rattle.text.specs.inside.Blocks.{width_in};
 ghost use Rattle.text.specs.Utf8.{char_at};
@@ -7,7 +7,8 @@ ghost use Rattle.text.specs.Text.{sound, text_at};
 use crate::blocks::past_blocks;
 use crate::utf8::{Char, next_char, trails};
 
-// Whether a character of two bytes stands at a place.
+// Whether a character of two bytes stands at a place. (The place is within the text, so that the subtraction fits, here and below; `checked_sub` would be no plainer.)
+#[tactic(auto, using(crate::proofs::Passes::multis))]
 fn pair_at(t: &[u8], at: usize) -> bool
     requires { at < length t.now }
     ensures { result ≡ true → width_in (char_at t.now at) ≡ 2 }
@@ -19,6 +20,7 @@ fn pair_at(t: &[u8], at: usize) -> bool
 }
 
 // Whether a character of three bytes stands at a place: two bytes 80 to BF, of which the first is A0 or above after E0, and 9F or below after ED.
+#[tactic(auto, using(crate::proofs::Passes::multis))]
 fn triple_at(t: &[u8], at: usize) -> bool
     requires { at < length t.now }
     ensures { result ≡ true → width_in (char_at t.now at) ≡ 3 }
@@ -33,7 +35,7 @@ fn triple_at(t: &[u8], at: usize) -> bool
     matches!(b, 0xE0..=0xEF) & trails(x) & trails(t[at + 2]) & least & most
 }
 
-// How many bytes the character at a place has, or 0 where there is none.
+// How many bytes the character at a place has, or 0 where there is none. (0 and no Option: the promise names `width_in`, which says 0.)
 #[tactic(auto, using(crate::proofs::Passes::widths))]
 fn width_at(t: &[u8], at: usize) -> usize
     requires { at < length t.now }

@@ -1,4 +1,4 @@
-// Trimming a text at both ends, and its words: the runs between blanks.
+// Trimming a text at both ends, and its words: the runs between blanks. (A text and a place in it stay two parameters, as the public functions and `word_of` have them. What stands between two places is answered as the places: `trim_of` and `word_of`, which the promises name, are pairs, and `lines` keeps the places.)
 ghost use Rattle.std.specs.Prelude.{◌≡◌, ◌-◌, ◌≤◌, ◌<◌, true, length};
 ghost use Rattle.text.specs.inside.Blocks.{back_to, blank_in};
 ghost use Rattle.text.specs.Utf8.{char_at};
@@ -8,7 +8,7 @@ use crate::blank::is_blank;
 use crate::utf8::{Char, next_char, trails};
 use crate::valid::valid;
 
-// Where the character that ends at a place starts: before the bytes 80 to BF that stand there.
+// Where the character that ends at a place starts: before the bytes 80 to BF that stand there. It goes backwards while they do, so the loop goes by the place.
 #[tactic(auto, using(crate::proofs::Ends::backs))]
 fn start_of(t: &[u8], end: usize) -> usize
     requires { (0 < end) × (end ≤ length t.now) }
@@ -37,7 +37,7 @@ fn blank_at(t: &[u8], at: usize) -> bool
     }
 }
 
-// Where the last character that is not blank ends, or 0 where there is none.
+// Where the last character that is not blank ends, or 0 where there is none, as in `last_end` of specs/. A step back is as wide as its character, so the loop goes by the place.
 #[tactic(auto, using(crate::proofs::Ends::lasts))]
 fn last_end(t: &[u8]) -> usize
     requires { sound (text_at t.now 0) ≡ true }
@@ -80,7 +80,7 @@ pub fn inner(t: &[u8]) -> &[u8]
     }
 }
 
-// Where the blanks that start at a place end, or, if they are not wanted, the characters that are not blank. A step is as wide as its character, so the loop goes by the place.
+// Where the blanks that start at a place end, or, if they are not wanted, the characters that are not blank. A step is as wide as its character, so the loop goes by the place. (The flag is that of `run_of`, which the contract names.)
 #[tactic(auto, using(crate::proofs::Runs::runs))]
 pub fn run_end(t: &[u8], from: usize, wanted: bool) -> usize
     ensures { result ≡ run_of wanted t.now from }

@@ -3,7 +3,7 @@ use keys::key::{Geometry, Key};
 use text::sector::Sectors;
 use text::utf8::Char;
 
-// An answer: which of its cases, and the values of that case. The cases are numbers, as a vector's first line has them: each kind has its own.
+// An answer: which of its cases, and the values of that case. The cases are numbers, since a vector's first line has them so: TAG, A and B, of each kind its own.
 #[derive(Clone, Copy, PartialEq)]
 pub(crate) struct Answer {
     pub tag: u64,
@@ -21,7 +21,7 @@ fn yes(b: bool) -> Answer {
     bare(u64::from(b))
 }
 
-// A pair of places.
+// A pair of places. (`as`: a usize has no `From` to u64.)
 fn places(a: usize, b: usize) -> Answer {
     Answer {
         tag: 1,
@@ -32,11 +32,10 @@ fn places(a: usize, b: usize) -> Answer {
 
 // c: the character that a text starts with, its code point and its width.
 fn character(t: &[u8]) -> Answer {
-    let c = text::utf8::next_char(t, 0);
-    match c {
+    match text::utf8::next_char(t, 0) {
         Char::Scalar(code, width) => Answer {
             tag: 1,
-            a: code as u64,
+            a: u64::from(code),
             b: width as u64,
         },
         Char::Bad => bare(0),
@@ -46,39 +45,20 @@ fn character(t: &[u8]) -> Answer {
 
 // b: whether that character is a blank.
 fn blank(t: &[u8]) -> Answer {
-    let c = text::utf8::next_char(t, 0);
-    match c {
+    match text::utf8::next_char(t, 0) {
         Char::Scalar(code, _) => yes(text::blank::is_blank(code)),
-        Char::Bad => bare(2),
-        Char::End => bare(2),
+        Char::Bad | Char::End => bare(2),
     }
 }
 
-// t: the range that trimming leaves.
-fn trim(t: &[u8]) -> Answer {
-    let r = text::words::trim(t);
-    match r {
-        Some((a, e)) => places(a, e),
-        None => bare(0),
-    }
-}
-
-// w: the first word.
-fn word(t: &[u8]) -> Answer {
-    let w = text::words::next_word(t, 0);
-    match w {
-        Some((a, e)) => places(a, e),
-        None => bare(0),
-    }
+// t and w: the part that trimming leaves, and the first word.
+fn part(found: Option<(usize, usize)>) -> Answer {
+    found.map_or(bare(0), |(from, to)| places(from, to))
 }
 
 // n and v: the number that a text is, up to 2^64-1 and up to 2^32-1.
 fn number(t: &[u8], limit: u64) -> Answer {
-    let n = text::number::number(t, limit);
-    match n {
-        Some(v) => Answer { tag: 1, a: v, b: 0 },
-        None => bare(0),
-    }
+    text::number::number(t, limit).map_or(bare(0), |a| Answer { tag: 1, a, b: 0 })
 }
 
 // q: the part within the quotes.
@@ -89,24 +69,19 @@ fn quotes(t: &[u8]) -> Answer {
 
 // s: a sector count, and its bytes.
 fn sectors(t: &[u8]) -> Answer {
-    let c = Sectors::of(t);
-    match c {
-        Some(s) => bytes(s),
-        None => bare(0),
-    }
+    Sectors::of(t).map_or(bare(0), bytes)
 }
 
 // A sector count with its bytes, or that they are too many.
 fn bytes(s: Sectors) -> Answer {
-    let n = s.number();
-    let b = s.bytes();
-    match b {
-        Some(c) => Answer {
+    let a = s.number();
+    match s.bytes() {
+        Some(bytes) => Answer {
             tag: 1,
-            a: n,
-            b: c.offset(),
+            a,
+            b: bytes.offset(),
         },
-        None => Answer { tag: 2, a: n, b: 0 },
+        None => Answer { tag: 2, a, b: 0 },
     }
 }
 
@@ -117,44 +92,32 @@ fn line(t: &[u8]) -> Answer {
 
 // e: the place of the first `=`.
 fn equals(t: &[u8]) -> Answer {
-    let p = text::find::find_byte(t, 0, 0x3D);
-    match p {
-        Some(i) => places(i, 0),
-        None => bare(0),
-    }
-}
-
-// Which of the geometry's keys.
-fn geometry(g: Geometry) -> Answer {
-    match g {
-        Geometry::Sectors => bare(6),
-        Geometry::Heads => bare(7),
-        Geometry::Cylinders => bare(8),
-    }
+    text::find::find_byte(t, 0, b'=').map_or(bare(0), |at| places(at, 0))
 }
 
 // k: which key a text is.
 fn key(t: &[u8]) -> Answer {
-    let k = keys::key::key_of(t);
-    match k {
-        Key::Version => bare(1),
-        Key::Cid => bare(2),
-        Key::ParentCid => bare(3),
-        Key::CreateType => bare(4),
-        Key::ParentFileNameHint => bare(5),
-        Key::Geometry(g) => geometry(g),
-        Key::Ddb => bare(9),
-        Key::Unknown => bare(0),
-    }
+    bare(match keys::key::key_of(t) {
+        Some(Key::Version) => 1,
+        Some(Key::Cid) => 2,
+        Some(Key::ParentCid) => 3,
+        Some(Key::CreateType) => 4,
+        Some(Key::ParentFileNameHint) => 5,
+        Some(Key::Geometry(Geometry::Sectors)) => 6,
+        Some(Key::Geometry(Geometry::Heads)) => 7,
+        Some(Key::Geometry(Geometry::Cylinders)) => 8,
+        Some(Key::Ddb) => 9,
+        None => 0,
+    })
 }
 
-// The answer of the function that a kind names.
+// The answer of the function that a kind names. (A letter and no enum: the letters are the vectors' own, which compare/vectors.py lists.)
 pub(crate) fn ask(kind: u8, t: &[u8]) -> Answer {
     match kind {
         b'c' => character(t),
         b'b' => blank(t),
-        b't' => trim(t),
-        b'w' => word(t),
+        b't' => part(text::words::trim(t)),
+        b'w' => part(text::words::next_word(t, 0)),
         b'n' => number(t, u64::MAX),
         b'v' => number(t, u64::from(u32::MAX)),
         b'q' => quotes(t),

@@ -7,12 +7,13 @@
 mod answers;
 
 ghost use Rattle.std.specs.Prelude.{◌<◌, ◌≤◌, length, IfSome};
+ghost use Rattle.std.specs.Iterator.{at_most};
 
 use answers::Answer;
 use input::read_full;
 use std::io;
 
-// A vector: its kind, its text and the answer that is expected.
+// A vector: its kind, a letter as the input has it, its text and the answer that is expected.
 #[derive(Drop)]
 struct Vector<'a> {
     kind: u8,
@@ -20,7 +21,7 @@ struct Vector<'a> {
     expected: Answer,
 }
 
-// The number that is the next word, or 0, and what stands after it.
+// The number that is the next word, or 0, and what stands after it. (0 and no Option: a line that lacks a number is run as a vector, and what the program does on an input stays.)
 #[tactic(auto, using(text::proofs::Bounds::cuts))]
 fn read_number(d: &[u8]) -> (u64, &[u8])
     ensures { length result.1.now ≤ length d.now }
@@ -44,7 +45,7 @@ fn first_vector(d: &[u8]) -> Option<(Vector<'_>, &[u8])>
     let (a, d) = read_number(d);
     let (b, d) = read_number(d);
     let (_, d) = d.split_first()?;
-    let (text, d) = d.split_at_checked(length as usize)?;
+    let (text, d) = d.split_at_checked(usize::try_from(length).ok()?)?;
     let (_, d) = d.split_first()?;
     let expected = Answer { tag, a, b };
     Some((
@@ -78,22 +79,35 @@ fn fails(rt: &impl Print, v: Vector<'_>) -> io::Result<bool> {
     Ok(got != v.expected)
 }
 
+// The vectors of an input, or of what is left of it. (`Words` and `Cases` of vmdkmap_cases go likewise, but for the cut: generic, the cut would be a closure, and that it leaves less a premise. `next` is the trait's.)
+#[derive(Clone, Copy)]
+struct Vectors<'a>(&'a [u8]);
+
+impl<'a> Iterator for Vectors<'a> {
+    type Item = Vector<'a>;
+
+    ghost remaining = { λ s. at_most (length s.0.now) };
+
+    fn next(&mut self) -> Option<Vector<'a>> {
+        let (vector, rest) = first_vector(self.0)?;
+        self.0 = rest;
+        Some(vector)
+    }
+}
+
 // Runs vector after vector.
-fn run_all(rt: &impl Print, mut d: &[u8]) -> io::Result<()> {
-    let mut count: usize = 0;
+fn run_all(rt: &impl Print, d: &[u8]) -> io::Result<()> {
+    let vectors = Vectors(d);
+    let count = vectors.count();
     let mut failed: usize = 0;
-    while let Some((vector, rest)) = first_vector(d) {
-        count += 1;
-        if fails(rt, vector)? {
-            failed += 1;
-        }
-        d = rest;
+    for vector in vectors {
+        failed += usize::from(fails(rt, vector)?);
     }
     println!(rt; "run {count}")?;
     println!(rt; "failed {failed}")
 }
 
-// Reads the vectors and runs them.
+// Reads the vectors and runs them. (Fixed memory, no heap: an array and how much of it is the input.)
 fn main(rt: HostRuntime) -> io::Result<()> {
     let mut space = [0; 65536];
     let n = read_full(&mut rt.reader(), &mut space)?;

@@ -35,7 +35,7 @@ use Rattle.lines.specs.declared.extent.Third.{Third}
 use Rattle.lines.specs.declared.extent.Third.TheVariants.{Zero, Flat}
 use Rattle.lines.specs.declared.line.Said.TheVariants.{Nothing, Extent, Set}
 use Rattle.lines.specs.declared.line.AccessWord.{AccessWord}
-use Rattle.lines.specs.declared.line.AccessWord.TheVariants.{NoAccess, RdOnly, RW, Other}
+use Rattle.lines.specs.declared.line.AccessWord.TheVariants.{NoAccess, RdOnly, RW}
 use Rattle.lines.specs.declared.record.Text.{Text}
 use Rattle.lines.specs.declared.record.VmdkAccessType.{VmdkAccessType}
 use Rattle.lines.specs.declared.record.VmdkAccessType.TheVariants.{RdOnly as ReadOnly, RW as ReadWrite}
@@ -130,11 +130,11 @@ third_by t None n h f g = f cc
 
 -- the word before the first blank is the access's
 module _ (w : List ℕ) where
-  abbrev Access : AccessWord → Type 0
-  Access NoAccess = w ≡ ascii "NOACCESS"
-  Access RdOnly = w ≡ ascii "RDONLY"
-  Access RW = w ≡ ascii "RW"
-  Access Other = Unit {0}
+  abbrev Access : Option AccessWord → Type 0
+  Access (Some NoAccess) = w ≡ ascii "NOACCESS"
+  Access (Some RdOnly) = w ≡ ascii "RDONLY"
+  Access (Some RW) = w ≡ ascii "RW"
+  Access None = Unit {0}
 
   access_is : Access (access_word w)
   unfolding access_word
@@ -350,12 +350,12 @@ module _ (d : List ℕ) (p : ℕ) (t ms : List ℕ) (lies : Lies d p t) (s : sca
       third_fine a k c end (second_is t (first_blank t) (word_of t (first_blank t)) refl q) (third_of t end) refl
   second_fine a k None q = λ f g. no_count (access_text a) k (inl (a, refl)) q SectorCount refl
 
-  access_fine : (w : AccessWord) → Access (take (first_blank t) t) w → Fine d t (access_line w p t (first_blank t))
+  access_fine : (w : Option AccessWord) → Access (take (first_blank t) t) w → Fine d t (access_line w p t (first_blank t))
   unfolding access_line no_access_line extent_line
-  access_fine NoAccess k = locked_by (second_of t (first_blank t)) refl k
-  access_fine RdOnly k = second_fine ReadOnly k (second_of t (first_blank t)) refl
-  access_fine RW k = second_fine ReadWrite k (second_of t (first_blank t)) refl
-  access_fine Other k = fine_key d t (key_line p t) (key_keys p t)
+  access_fine (Some NoAccess) k = locked_by (second_of t (first_blank t)) refl k
+  access_fine (Some RdOnly) k = second_fine ReadOnly k (second_of t (first_blank t)) refl
+  access_fine (Some RW) k = second_fine ReadWrite k (second_of t (first_blank t)) refl
+  access_fine None k = fine_key d t (key_line p t) (key_keys p t)
 
 text_fine : (d : List ℕ) (p : ℕ) (t ms : List ℕ) → Lies d p t → scalars ms ≡ true → end_codes ms ≡ ms → t ≡ encode_all ms → Fine d t (text_line p t)
 unfolding text_line

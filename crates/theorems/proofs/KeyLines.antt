@@ -22,7 +22,7 @@ use Rattle.text.proofs.Finds.{same_is}
 use Rattle.text.proofs.Bounds.{trim_within}
 use Rattle.keys.specs.Key.{key_of, geometry_key}
 use Rattle.keys.specs.declared.key.Key.{Key}
-use Rattle.keys.specs.declared.key.Key.TheVariants.{Version, Cid, ParentCid, CreateType, ParentFileNameHint, Geometry as Geometry-as-Key, Ddb, Unknown}
+use Rattle.keys.specs.declared.key.Key.TheVariants.{Version, Cid, ParentCid, CreateType, ParentFileNameHint, Geometry as Geometry-as-Key, Ddb}
 use Rattle.keys.specs.declared.key.Geometry.{Geometry}
 use Rattle.keys.specs.declared.key.Geometry.TheVariants.{Sectors, Heads, Cylinders}
 use Rattle.lines.specs.Kept.{kept_at, kept_of, unquoted_of}
@@ -32,7 +32,7 @@ use Rattle.lines.specs.declared.line.Setting.{Setting}
 use Rattle.lines.specs.declared.line.Setting.TheVariants.{Version as Is-as-Version, Cid as Is-as-Cid, ParentCid as Is-as-ParentCid, CreateType as Is-as-CreateType, Sectors as Is-as-Sectors, Heads as Is-as-Heads, Cylinders as Is-as-Cylinders}
 use Rattle.lines.specs.declared.line.Said.TheVariants.{Nothing, Extent, Set}
 use Rattle.lines.specs.declared.line.AccessWord.{AccessWord}
-use Rattle.lines.specs.declared.line.AccessWord.TheVariants.{NoAccess, RdOnly, RW, Other}
+use Rattle.lines.specs.declared.line.AccessWord.TheVariants.{NoAccess, RdOnly, RW}
 use Rattle.lines.specs.declared.record.VmdkAccessType.{VmdkAccessType}
 use Rattle.lines.specs.declared.record.VmdkAccessType.TheVariants.{RdOnly as ReadOnly, RW as ReadWrite}
 use Rattle.lines.specs.declared.line.Said.{Said}
@@ -49,15 +49,15 @@ use Rattle.theorems.proofs.Versions.{v_access, key_said, key_silent}
 
 -- ---- the keys
 -- a text that is a key of this kind
-abbrev pub KeyIs : List ℕ → Key → Type 0
-KeyIs key Version = key ≡ key_text version
-KeyIs key Cid = key ≡ key_text cid
-KeyIs key ParentCid = key ≡ key_text parent_cid
-KeyIs key CreateType = key ≡ key_text create_type
-KeyIs key ParentFileNameHint = key ≡ hint_key
-KeyIs key (Geometry-as-Key g) = key ≡ key_text (geometry g)
-KeyIs key Ddb = Unit {0}
-KeyIs key Unknown = UnknownKey key
+abbrev pub KeyIs : List ℕ → Option Key → Type 0
+KeyIs key (Some Version) = key ≡ key_text version
+KeyIs key (Some Cid) = key ≡ key_text cid
+KeyIs key (Some ParentCid) = key ≡ key_text parent_cid
+KeyIs key (Some CreateType) = key ≡ key_text create_type
+KeyIs key (Some ParentFileNameHint) = key ≡ hint_key
+KeyIs key (Some (Geometry-as-Key g)) = key ≡ key_text (geometry g)
+KeyIs key (Some Ddb) = Unit {0}
+KeyIs key None = UnknownKey key
 
 key_by : {C : Type 0} (key word : List ℕ) → (same key word ≡ true → key ≡ word → C) → (same key word ≡ false → (key ≡ word → ⊥) → C) → C
 key_by key word f g = by_test (same key word) (λ e. f e (same_is key word e)) (λ e. g e (differs key word e))
@@ -84,12 +84,12 @@ key_tells key =
     (elim [ version ↦ n₁ | cid ↦ n₂ | parent_cid ↦ n₃ | create_type ↦ n₄ | geometry g ↦ no_geometry key n₆ n₇ n₈ g ], n₅, e))))))))))
 
 -- the key of an item
-abbrev pub item_key : Item → Key
-item_key version = Version
-item_key cid = Cid
-item_key parent_cid = ParentCid
-item_key create_type = CreateType
-item_key (geometry g) = Geometry-as-Key g
+abbrev pub item_key : Item → Option Key
+item_key version = Some Version
+item_key cid = Some Cid
+item_key parent_cid = Some ParentCid
+item_key create_type = Some CreateType
+item_key (geometry g) = Some (Geometry-as-Key g)
 
 pub item_key_lem : (i : Item) → key_of (key_text i) ≡ item_key i
 unfolding key_of geometry_key same
@@ -101,33 +101,33 @@ item_key_lem (geometry Sectors) = refl
 item_key_lem (geometry Heads) = refl
 item_key_lem (geometry Cylinders) = refl
 
-pub hint_key_lem : key_of hint_key ≡ ParentFileNameHint
+pub hint_key_lem : key_of hint_key ≡ Some ParentFileNameHint
 unfolding key_of same
 hint_key_lem = refl
 
 pub other : (key word : List ℕ) → (key ≡ word → ⊥) → same key word ≡ false
 other key word n = key_by key word (λ e q. absurd (n q)) (λ e m. e)
 
-pub unknown_is : (key : List ℕ) → UnknownKey key → key_of key ≡ Unknown
+pub unknown_is : (key : List ℕ) → UnknownKey key → key_of key ≡ None
 unfolding key_of geometry_key
 unknown_is key u =
     rw (other key (ascii "version") (u.0 version), other key (ascii "CID") (u.0 cid), other key (ascii "parentCID") (u.0 parent_cid), other key (ascii "createType") (u.0 create_type), other key (ascii "parentFileNameHint") u.1, other key (ascii "ddb.geometry.sectors") (u.0 (geometry Sectors)), other key (ascii "ddb.geometry.heads") (u.0 (geometry Heads)), other key (ascii "ddb.geometry.cylinders") (u.0 (geometry Cylinders)), u.2)
 
 -- ---- an access word
-pub access_of : (a : VmdkAccessType) → access_word (access_text a) ≡ Other → ⊥
+pub access_of : (a : VmdkAccessType) → access_word (access_text a) ≡ None → ⊥
 unfolding access_word same
 access_of ReadOnly e = let z : ◌≡◌ {A = ℕ} 0 1 = cc in omega arith
 access_of ReadWrite e = let z : ◌≡◌ {A = ℕ} 0 1 = cc in omega arith
 
-locked_of : access_word (ascii "NOACCESS") ≡ Other → ⊥
+locked_of : access_word (ascii "NOACCESS") ≡ None → ⊥
 unfolding access_word same
 locked_of e = let z : ◌≡◌ {A = ℕ} 0 1 = cc in omega arith
 
-not_access : (w : List ℕ) → access_word w ≡ Other → IsAccess w → ⊥
+not_access : (w : List ℕ) → access_word w ≡ None → IsAccess w → ⊥
 not_access w e (inl i) = access_of i.0 (ap access_word (sym i.1) ∙ e)
 not_access w e (inr q) = locked_of (ap access_word (sym q) ∙ e)
 
-other_access : (w : List ℕ) → (IsAccess w → ⊥) → access_word w ≡ Other
+other_access : (w : List ℕ) → (IsAccess w → ⊥) → access_word w ≡ None
 unfolding access_word
 other_access w n =
     rw (other w (ascii "RW") (λ q. n (inl (ReadWrite, q))), other w (ascii "RDONLY") (λ q. n (inl (ReadOnly, q))), other w (ascii "NOACCESS") (λ q. n (inr q)))
@@ -269,16 +269,16 @@ module _ (d : List ℕ) (p : ℕ) (t : List ℕ) (lies : Lies d p t) where
     unquoted_value : Holds d (text (unquoted_of (p + from) k.after)) (letters (unquoted value))
     unquoted_value = rw (← k.says) (unquoted_by d (p + from) k.after after_lies (trim_of k.after) refl)
 
-    value_fine : (K : Key) → KeyIs key K → KeyFine d t (value_of K (p + from) k.after)
+    value_fine : (K : Option Key) → KeyIs key K → KeyFine d t (value_of K (p + from) k.after)
     unfolding value_of version_of geometry_line geometry_of
-    value_fine Version q = version_fine q (number_of version_limit (trimmed k.after)) (ap (number_of version_limit) (sym k.says))
-    value_fine Cid q = (value, renamed q, kept_value)
-    value_fine ParentCid q = (value, renamed q, kept_value)
-    value_fine CreateType q = (value, renamed q, unquoted_value)
-    value_fine ParentFileNameHint q = λ a. (parent_hint, refl, (value, renamed q))
-    value_fine (Geometry-as-Key g) q = geometry_fine g q (geometry_of k.after) (ap (λ (v : List ℕ). number_of largest (unquoted v)) (sym k.says))
-    value_fine Ddb q = tt
-    value_fine Unknown q = λ a. (unknown_key, refl, (key, value, k, q))
+    value_fine (Some Version) q = version_fine q (number_of version_limit (trimmed k.after)) (ap (number_of version_limit) (sym k.says))
+    value_fine (Some Cid) q = (value, renamed q, kept_value)
+    value_fine (Some ParentCid) q = (value, renamed q, kept_value)
+    value_fine (Some CreateType) q = (value, renamed q, unquoted_value)
+    value_fine (Some ParentFileNameHint) q = λ a. (parent_hint, refl, (value, renamed q))
+    value_fine (Some (Geometry-as-Key g)) q = geometry_fine g q (geometry_of k.after) (ap (λ (v : List ℕ). number_of largest (unquoted v)) (sym k.says))
+    value_fine (Some Ddb) q = tt
+    value_fine None q = λ a. (unknown_key, refl, (key, value, k, q))
 
   -- a line that is neither skipped nor an extent line
   key_fine : skipped t ≡ false → (first_blank t < length t → IsAccess (take (first_blank t) t) → ⊥) → KeyFine d t (key_line p t)
@@ -288,12 +288,12 @@ module _ (d : List ℕ) (p : ℕ) (t : List ℕ) (lies : Lies d p t) where
       (λ a r q z. let k : KeyLine t (trimmed a) (trimmed r) = record { read = s; no_extent = n; before = a; after = r; whole = q; first = z; named = refl; says = refl } in
       rw (key_said t a r q z p) (value_fine (trimmed a) (trimmed r) k (key_of (trimmed a)) (key_tells (trimmed a))))
 
-  access_fine : skipped t ≡ false → (w : AccessWord) → access_word (take (first_blank t) t) ≡ w → KeyFine d t (access_line w p t (first_blank t))
+  access_fine : skipped t ≡ false → (w : Option AccessWord) → access_word (take (first_blank t) t) ≡ w → KeyFine d t (access_line w p t (first_blank t))
   unfolding access_line
-  access_fine s NoAccess e = fine_extent d t (no_access_line t (first_blank t)) (extent_locked_line t (first_blank t))
-  access_fine s RdOnly e = fine_extent d t (extent_line ReadOnly p t (first_blank t)) (extent_line_lem ReadOnly p t (first_blank t))
-  access_fine s RW e = fine_extent d t (extent_line ReadWrite p t (first_blank t)) (extent_line_lem ReadWrite p t (first_blank t))
-  access_fine s Other e = key_fine s (λ b. not_access (take (first_blank t) t) e)
+  access_fine s (Some NoAccess) e = fine_extent d t (no_access_line t (first_blank t)) (extent_locked_line t (first_blank t))
+  access_fine s (Some RdOnly) e = fine_extent d t (extent_line ReadOnly p t (first_blank t)) (extent_line_lem ReadOnly p t (first_blank t))
+  access_fine s (Some RW) e = fine_extent d t (extent_line ReadWrite p t (first_blank t)) (extent_line_lem ReadWrite p t (first_blank t))
+  access_fine s None e = key_fine s (λ b. not_access (take (first_blank t) t) e)
 
   text_fine : KeyFine d t (text_line p t)
   unfolding text_line

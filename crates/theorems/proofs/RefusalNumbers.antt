@@ -20,13 +20,13 @@ use Rattle.lines.specs.Kept.{kept_of}
 use Rattle.lines.specs.Extent.{part, second_of, third_of, three_words, between_quotes, after_quote, file_name_of, file_start_of, flat_from, flat_by, flat_line, no_access_by, no_access_line, by_third, by_second, extent_line, third_word}
 use Rattle.lines.specs.Line.{version_limit, version_by, version_of, geometry_of, geometry_by, geometry_line, value_of, key_by, key_line, access_word, access_line, first_blank, skipped, text_line, trimmed_line, line_of}
 use Rattle.keys.specs.declared.key.Key.{Key}
-use Rattle.keys.specs.declared.key.Key.TheVariants.{Version, Cid, ParentCid, CreateType, ParentFileNameHint, Geometry as Geometry-as-Key, Ddb, Unknown}
+use Rattle.keys.specs.declared.key.Key.TheVariants.{Version, Cid, ParentCid, CreateType, ParentFileNameHint, Geometry as Geometry-as-Key, Ddb}
 use Rattle.keys.specs.declared.key.Geometry.{Geometry}
 use Rattle.lines.specs.declared.extent.Third.{Third}
 use Rattle.lines.specs.declared.extent.Third.TheVariants.{Zero, Flat}
 use Rattle.lines.specs.declared.line.Said.TheVariants.{Nothing, Extent, Set}
 use Rattle.lines.specs.declared.line.AccessWord.{AccessWord}
-use Rattle.lines.specs.declared.line.AccessWord.TheVariants.{NoAccess, RdOnly, RW, Other}
+use Rattle.lines.specs.declared.line.AccessWord.TheVariants.{NoAccess, RdOnly, RW}
 use Rattle.lines.specs.declared.record.VmdkAccessType.{VmdkAccessType}
 use Rattle.lines.specs.declared.record.VmdkAccessType.TheVariants.{RdOnly as ReadOnly, RW as ReadWrite}
 use Rattle.lines.specs.declared.record.VmdkParsedStorage.{VmdkParsedStorage}
@@ -60,16 +60,16 @@ key_geometry : (g : Geometry) (n : Option ℕ) → OfKey (geometry_by g n)
 key_geometry g (Some v) = tt
 key_geometry g None = omega arith
 
-key_value : (k : Key) (p : ℕ) (v : List ℕ) → OfKey (value_of k p v)
+key_value : (k : Option Key) (p : ℕ) (v : List ℕ) → OfKey (value_of k p v)
 unfolding value_of version_of geometry_line
-key_value Version p v = key_version (number_of version_limit (trimmed v))
-key_value Cid p v = tt
-key_value ParentCid p v = tt
-key_value CreateType p v = tt
-key_value ParentFileNameHint p v = omega arith
-key_value (Geometry-as-Key g) p v = key_geometry g (geometry_of v)
-key_value Ddb p v = tt
-key_value Unknown p v = omega arith
+key_value (Some Version) p v = key_version (number_of version_limit (trimmed v))
+key_value (Some Cid) p v = tt
+key_value (Some ParentCid) p v = tt
+key_value (Some CreateType) p v = tt
+key_value (Some ParentFileNameHint) p v = omega arith
+key_value (Some (Geometry-as-Key g)) p v = key_geometry g (geometry_of v)
+key_value (Some Ddb) p v = tt
+key_value None p v = omega arith
 
 key_key : (p : ℕ) (t : List ℕ) (f : Option ℕ) → OfKey (key_by p t f)
 key_key p t None = tt
@@ -161,12 +161,12 @@ late_of_extent (Ok (Set v)) h = tt
 late_of_extent (Ok (Extent x)) h = tt
 late_of_extent (Err n) h = omega arith
 
-late_access : (w : AccessWord) (p : ℕ) (t : List ℕ) (end : ℕ) → Late (access_line w p t end)
+late_access : (w : Option AccessWord) (p : ℕ) (t : List ℕ) (end : ℕ) → Late (access_line w p t end)
 unfolding access_line
-late_access NoAccess p t end = late_of_extent (no_access_line t end) (extent_locked_line t end)
-late_access RdOnly p t end = late_of_extent (extent_line ReadOnly p t end) (extent_line_lem ReadOnly p t end)
-late_access RW p t end = late_of_extent (extent_line ReadWrite p t end) (extent_line_lem ReadWrite p t end)
-late_access Other p t end = late_of_key (key_line p t) (key_keys p t)
+late_access (Some NoAccess) p t end = late_of_extent (no_access_line t end) (extent_locked_line t end)
+late_access (Some RdOnly) p t end = late_of_extent (extent_line ReadOnly p t end) (extent_line_lem ReadOnly p t end)
+late_access (Some RW) p t end = late_of_extent (extent_line ReadWrite p t end) (extent_line_lem ReadWrite p t end)
+late_access None p t end = late_of_key (key_line p t) (key_keys p t)
 
 late_line : (p : ℕ) (t : List ℕ) → Late (text_line p t)
 unfolding text_line

@@ -29,13 +29,13 @@ use Rattle.descriptor.specs.Read.{Read, least_bytes, set_of, sizes_from, checked
 use Rattle.probing.specs.Probe.{verdict_of, probe_key, probe_line, first_answer, probe_lines, probe_of}
 use Rattle.theorems.specs.Statements.{ByLine, sayings, sayings_of, refuses, AllSound, first_version, version_after, last_version, read_from}
 use Rattle.keys.specs.declared.key.Key.{Key}
-use Rattle.keys.specs.declared.key.Key.TheVariants.{Version, Cid, ParentCid, CreateType, ParentFileNameHint, Geometry as Geometry-as-Key, Ddb, Unknown}
+use Rattle.keys.specs.declared.key.Key.TheVariants.{Version, Cid, ParentCid, CreateType, ParentFileNameHint, Geometry as Geometry-as-Key, Ddb}
 use Rattle.keys.specs.declared.key.Geometry.{Geometry}
 use Rattle.keys.specs.declared.key.Geometry.TheVariants.{Sectors, Heads, Cylinders}
 use Rattle.lines.specs.declared.line.Setting.TheVariants.{Version as Is-as-Version, Cid as Is-as-Cid, ParentCid as Is-as-ParentCid, CreateType as Is-as-CreateType, Sectors as Is-as-Sectors, Heads as Is-as-Heads, Cylinders as Is-as-Cylinders}
 use Rattle.lines.specs.declared.line.Said.TheVariants.{Nothing, Extent, Set}
 use Rattle.lines.specs.declared.line.AccessWord.{AccessWord}
-use Rattle.lines.specs.declared.line.AccessWord.TheVariants.{NoAccess, RdOnly, RW, Other}
+use Rattle.lines.specs.declared.line.AccessWord.TheVariants.{NoAccess, RdOnly, RW}
 use Rattle.lines.specs.declared.record.VmdkAccessType.TheVariants.{RdOnly as ReadOnly, RW as ReadWrite}
 use Rattle.lines.specs.declared.record.VmdkDesc.{VmdkDesc}
 use Rattle.lines.specs.declared.record.ReadExtent.{ReadExtent}
@@ -68,33 +68,33 @@ extent_no (Ok (Extent x)) h = tt
 extent_no (Err n) h = tt
 
 -- a key other than `version`
-abbrev OtherKey : Key → Type 0
-OtherKey Version = ⊥
-OtherKey Cid = Unit {0}
-OtherKey ParentCid = Unit {0}
-OtherKey CreateType = Unit {0}
-OtherKey ParentFileNameHint = Unit {0}
-OtherKey (Geometry-as-Key g) = Unit {0}
-OtherKey Ddb = Unit {0}
-OtherKey Unknown = Unit {0}
+abbrev OtherKey : Option Key → Type 0
+OtherKey (Some Version) = ⊥
+OtherKey (Some Cid) = Unit {0}
+OtherKey (Some ParentCid) = Unit {0}
+OtherKey (Some CreateType) = Unit {0}
+OtherKey (Some ParentFileNameHint) = Unit {0}
+OtherKey (Some (Geometry-as-Key g)) = Unit {0}
+OtherKey (Some Ddb) = Unit {0}
+OtherKey None = Unit {0}
 
 other_geometry : (k : List ℕ) → OtherKey (geometry_key k)
 unfolding geometry_key
 other_geometry k =
-    pick_all OtherKey (same k (ascii "ddb.geometry.sectors")) (Geometry-as-Key Sectors) _ tt
-    (pick_all OtherKey (same k (ascii "ddb.geometry.heads")) (Geometry-as-Key Heads) _ tt
-    (pick_all OtherKey (same k (ascii "ddb.geometry.cylinders")) (Geometry-as-Key Cylinders) _ tt
-    (pick_all OtherKey (begins k (ascii "ddb.")) Ddb Unknown tt tt)))
+    pick_all OtherKey (same k (ascii "ddb.geometry.sectors")) (Some (Geometry-as-Key Sectors)) _ tt
+    (pick_all OtherKey (same k (ascii "ddb.geometry.heads")) (Some (Geometry-as-Key Heads)) _ tt
+    (pick_all OtherKey (same k (ascii "ddb.geometry.cylinders")) (Some (Geometry-as-Key Cylinders)) _ tt
+    (pick_all OtherKey (begins k (ascii "ddb.")) (Some Ddb) None tt tt)))
 
 other_key : (k : List ℕ) → same k (ascii "version") ≡ false → OtherKey (key_of k)
 unfolding key_of
 other_key k e =
-    rw e (pick_all OtherKey (same k (ascii "CID")) Cid _ tt
-    (pick_all OtherKey (same k (ascii "parentCID")) ParentCid _ tt
-    (pick_all OtherKey (same k (ascii "createType")) CreateType _ tt
-    (pick_all OtherKey (same k (ascii "parentFileNameHint")) ParentFileNameHint (geometry_key k) tt (other_geometry k)))))
+    rw e (pick_all OtherKey (same k (ascii "CID")) (Some Cid) _ tt
+    (pick_all OtherKey (same k (ascii "parentCID")) (Some ParentCid) _ tt
+    (pick_all OtherKey (same k (ascii "createType")) (Some CreateType) _ tt
+    (pick_all OtherKey (same k (ascii "parentFileNameHint")) (Some ParentFileNameHint) (geometry_key k) tt (other_geometry k)))))
 
-version_key : (k : List ℕ) → same k (ascii "version") ≡ true → key_of k ≡ Version
+version_key : (k : List ℕ) → same k (ascii "version") ≡ true → key_of k ≡ Some Version
 unfolding key_of
 version_key k e = rw e
 
@@ -104,25 +104,25 @@ no_geometry Heads (Some v) = tt
 no_geometry Cylinders (Some v) = tt
 no_geometry g None = tt
 
-no_value : (k : Key) (p : ℕ) (v : List ℕ) → OtherKey k → NoVersion (value_of k p v)
+no_value : (k : Option Key) (p : ℕ) (v : List ℕ) → OtherKey k → NoVersion (value_of k p v)
 unfolding value_of geometry_line
-no_value Version p v h = absurd h
-no_value Cid p v h = tt
-no_value ParentCid p v h = tt
-no_value CreateType p v h = tt
-no_value ParentFileNameHint p v h = tt
-no_value (Geometry-as-Key g) p v h = no_geometry g (geometry_of v)
-no_value Ddb p v h = tt
-no_value Unknown p v h = tt
+no_value (Some Version) p v h = absurd h
+no_value (Some Cid) p v h = tt
+no_value (Some ParentCid) p v h = tt
+no_value (Some CreateType) p v h = tt
+no_value (Some ParentFileNameHint) p v h = tt
+no_value (Some (Geometry-as-Key g)) p v h = no_geometry g (geometry_of v)
+no_value (Some Ddb) p v h = tt
+no_value None p v h = tt
 
 -- a trimmed line says no version if it says none as a line with a key
 module _ (p : ℕ) (t : List ℕ) (k : NoVersion (key_line p t)) where
-  no_access : (w : AccessWord) (end : ℕ) → NoVersion (access_line w p t end)
+  no_access : (w : Option AccessWord) (end : ℕ) → NoVersion (access_line w p t end)
   unfolding access_line
-  no_access NoAccess end = extent_no (no_access_line t end) (extent_locked_line t end)
-  no_access RdOnly end = extent_no (extent_line ReadOnly p t end) (extent_line_lem ReadOnly p t end)
-  no_access RW end = extent_no (extent_line ReadWrite p t end) (extent_line_lem ReadWrite p t end)
-  no_access Other end = k
+  no_access (Some NoAccess) end = extent_no (no_access_line t end) (extent_locked_line t end)
+  no_access (Some RdOnly) end = extent_no (extent_line ReadOnly p t end) (extent_line_lem ReadOnly p t end)
+  no_access (Some RW) end = extent_no (extent_line ReadWrite p t end) (extent_line_lem ReadWrite p t end)
+  no_access None end = k
 
   no_text : NoVersion (text_line p t)
   unfolding text_line
@@ -132,12 +132,12 @@ module _ (p : ℕ) (t : List ℕ) (k : NoVersion (key_line p t)) where
       (no_access (access_word (take (first_blank t) t)) (first_blank t)) k)
 
 -- ---- a line that starts with `v` is neither skipped nor an extent line
-v_word : (n : ℕ) (r : List ℕ) → access_word (take n (0x76 ∷ r)) ≡ Other
+v_word : (n : ℕ) (r : List ℕ) → access_word (take n (0x76 ∷ r)) ≡ None
 unfolding access_word same
 v_word zero r = refl
 v_word (suc n) r = refl
 
-pub v_access : (p : ℕ) (t : List ℕ) (end : ℕ) → access_line Other p t end ≡ key_line p t
+pub v_access : (p : ℕ) (t : List ℕ) (end : ℕ) → access_line None p t end ≡ key_line p t
 unfolding access_line
 v_access p t end = refl
 
@@ -181,7 +181,7 @@ unfolding refuses
 version_probed (Some v) h = refl
 version_probed None h = let z : ◌≡◌ {A = ℕ} 0 1 = cc in absurd (omega arith)
 
-version_said : (p : ℕ) (v : List ℕ) → value_of Version p v ≡ version_by (number_of version_limit (trimmed v))
+version_said : (p : ℕ) (v : List ℕ) → value_of (Some Version) p v ≡ version_by (number_of version_limit (trimmed v))
 unfolding value_of version_of
 version_said p v = refl
 

@@ -1,6 +1,6 @@
 -- What a loop's sum is from any round on: the round takes one off the front of those that are left. What is read and built depends on the descriptor alone, whatever the record that is lent held.
 -- Assumes nothing.
-use Rattle.std.proofs.Common.{◌≡◌, ℕ, suc, ◌+◌, ◌-◌, ◌<◌, ◌≤◌, ◌%◌, Bool, true, false, List, [], ◌∷◌, length, take, drop, replicate, sym, refl, ap, ◌∙◌, arith, length-append}
+use Rattle.std.proofs.Common.{◌≡◌, ℕ, suc, ◌+◌, ◌-◌, ◌<◌, ◌≤◌, ◌%◌, Bool, true, false, List, [], ◌∷◌, length, take, drop, sym, refl, ap, ◌∙◌, arith, length-append}
 use Rattle.std.specs.List.{fold}
 use Rattle.lines.specs.Record.{most, over}
 use Rattle.lines.specs.declared.record.Record.{Record}
@@ -14,7 +14,7 @@ use Rattle.tables.specs.declared.table.Table.{Table}
 use Rattle.tables.specs.declared.table.Piece.{Piece}
 use Rattle.tables.proofs.Into.{into_size, build_same, into_same}
 use Rattle.maps.specs.Map.{map_of}
-use Rattle.maps.specs.Walk.{Walk, walk_of, listed, no_piece, no_pieces}
+use Rattle.maps.specs.Walk.{Walk, walk_of, listed}
 use Rattle.timing.specs.Sum.{fold_of}
 use Rattle.timing.specs.Read.{value_of, size_of, reads_sum, table_in}
 use Rattle.timing.specs.Map.{asked, mapping_in, next_of, map_sum}
@@ -88,10 +88,6 @@ pub folded : (s : ℕ) (ps : List Piece) → pieces_in s ps ≡ fold piece_in s 
 unfolding pieces_in
 folded s [] = refl
 folded s (p ∷ ps) = folded (piece_in s p) ps
-
-pub blank_list : replicate most no_piece ≡ no_pieces
-unfolding no_pieces
-blank_list = refl
 
 -- what a walk wrote stands at the front of the list
 pub written_fits : (w : Walk) (ys : List Piece) → length w.pieces ≤ length (listed w ys)

@@ -1,4 +1,4 @@
-// What the benchmark calls: reading, probing, mapping and walking, each answered by one number.
+// What the benchmark calls: reading, probing, mapping and walking, each answered by one number. (Descriptor, window and count stand side by side, here and in the modules, as C hands them over.)
 #![tactic(auto)]
 
 mod map;
@@ -27,10 +27,10 @@ pub extern "C" fn ours_reads(descriptor: &[u8], count: u64) -> u64
 pub extern "C" fn ours_probe(descriptor: &[u8]) -> u64
     ensures { result ≡ bit_of (probe_of descriptor.now) }
 {
-    if probe::probe(descriptor) { 1 } else { 0 }
+    u64::from(probe::probe(descriptor))
 }
 
-// The sum over so many mappings, at drawn offsets (ascending 0) or at ascending ones.
+// The sum over so many mappings, at drawn offsets (ascending 0) or at ascending ones. (By C a number: a Rust bool from C must be 0 or 1.)
 #[unsafe(no_mangle)]
 pub extern "C" fn ours_map(descriptor: &[u8], ascending: u64, count: u64) -> u64
     ensures { result ≡ map_sum (is_ascending ascending) count (table_in descriptor.now) 0 0 }

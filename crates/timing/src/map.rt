@@ -48,7 +48,7 @@ fn next(ascending: bool, offset: u64) -> u64
     }
 }
 
-// The sum over so many mappings of a table that is lent.
+// The sum over so many mappings of a table that is lent. (A bool and no closure for the next offset: `map_sum`, which `ours_map` promises, is told by it.)
 fn many(t: &Table, ascending: bool, count: u64) -> u64
     ensures { result ≡ map_sum ascending count t.now 0 0 }
 {
@@ -61,7 +61,7 @@ fn many(t: &Table, ascending: bool, count: u64) -> u64
     sum
 }
 
-// The sum over so many mappings of the table of a descriptor.
+// The sum over so many mappings of the table of a descriptor. (`walk_in` shares two lines with it; what the two share would take the loop as a closure, and its promise as a premise.)
 pub(crate) fn map_in(d: &[u8], ascending: bool, count: u64) -> u64
     ensures { result ≡ map_sum ascending count (table_in d.now) 0 0 }
 {

@@ -11,20 +11,14 @@ use tables::build;
 use tables::table::Table;
 use text::sector::Bytes;
 
-// What a round adds: the disk's size; 2^64-1 if reading or building is refused.
+// What a round adds: the disk's size; 2^64-1 if reading or building is refused. (A number for none, since `ours_reads` promises C sums with it, by `size_of`.)
 fn value_of(read: Verdict, built: Verdict, size: Bytes) -> u64
     ensures { result ≡ value_of read built size.0 }
 {
-    match read {
-        Err(_) => u64::MAX,
-        Ok(()) => match built {
-            Err(_) => u64::MAX,
-            Ok(()) => size.offset(),
-        },
-    }
+    read.and(built).map_or(u64::MAX, |()| size.offset())
 }
 
-// Reads a descriptor and builds its table, into a record and a table that are lent: the disk's size; 2^64-1 if either is refused.
+// Reads a descriptor and builds its table, into a record and a table that are lent; answers what a round adds (`value_of`).
 // Inline, so that reading and building stay functions of their own: written into one caller, they take longer.
 #[inline(always)]
 pub(crate) fn fill(d: &[u8], record: &mut Record, table: &mut Table) -> u64

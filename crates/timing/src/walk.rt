@@ -1,16 +1,15 @@
 // Many walks of one table, into one list of pieces; both are lent.
 ghost use Rattle.std.specs.Prelude.{◌≡◌};
-ghost use Rattle.maps.specs.Walk.{no_pieces};
 ghost use Rattle.timing.specs.Read.{table_in};
 ghost use Rattle.timing.specs.Walk.{piece_in, pieces_in, walk_sum};
 
 use crate::read::fill;
 use crate::sum::fold;
 use descriptor::empty;
-use lines::record::MOST;
+use maps::stepping::no_pieces;
 use maps::walk;
 use tables::build;
-use tables::table::{Piece, PieceSource, Table};
+use tables::table::{Piece, Table};
 
 // The sum with a piece in it: where it starts on the disk, its run, and where it starts in its file.
 fn with_piece(sum: u64, p: &Piece) -> u64
@@ -28,26 +27,11 @@ fn with_pieces(sum: u64, pieces: &[Piece]) -> u64
     pieces.iter().fold(sum, |s, p| with_piece(s, p))
 }
 
-// Pieces of nothing.
-fn blanks() -> [Piece; MOST]
-    ensures { result ≡ no_pieces }
-{
-    let none = Piece {
-        start: 0,
-        run: 0,
-        source: PieceSource::Zero,
-        row: 0,
-        file_offset: 0,
-        writable: false,
-    };
-    [none; MOST]
-}
-
 // The sum over so many walks of a table that is lent; positions stay below 2^31.
 fn tours(t: &Table, window: u64, count: u64) -> u64
     ensures { result ≡ walk_sum count t.now window 0 0 }
 {
-    let mut list = blanks();
+    let mut list = no_pieces();
     let mut at: u64 = 0;
     let mut sum = 0;
     for _ in 0..count {

@@ -101,7 +101,7 @@ fn read_input(from: &mut impl Read, input: &mut [u8]) -> io::Result<usize>
     Ok(n)
 }
 
-// Writes the answer to an input, by way of a buffer.
+// Writes the answer to an input, by way of a buffer. (A function of its own: `vmdkmap_cases` tells on standard output that an answer is too long, as its vectors have it.)
 fn respond(rt: &(impl Print + Eprint), d: &[u8], asked: Command, out: &mut [u8]) -> io::Result<()> {
     let n = answer(d, asked, out);
     match out.get(..n) {
@@ -113,7 +113,7 @@ fn respond(rt: &(impl Print + Eprint), d: &[u8], asked: Command, out: &mut [u8])
     }
 }
 
-// Reads the input and writes the answer.
+// Reads the input and writes the answer. (Fixed memory, no heap: an array and how much of it is the input.)
 fn run(rt: &(impl Input + Print + Eprint + Alloc), asked: Command) -> ExitCode {
     let mut input = input_space();
     let n = match read_input(&mut rt.reader(), &mut input) {
@@ -135,8 +135,6 @@ fn main(rt: HostRuntime) -> ExitCode {
             usage(&rt);
             ExitCode::SUCCESS
         }
-        Command::Report => run(&rt, asked),
-        Command::Map(_, _) => run(&rt, asked),
-        Command::Walk(_, _, _) => run(&rt, asked),
+        Command::Report | Command::Map(_, _) | Command::Walk(_, _, _) => run(&rt, asked),
     }
 }

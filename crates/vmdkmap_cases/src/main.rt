@@ -5,6 +5,7 @@
 #![tactic(auto)]
 
 ghost use Rattle.std.specs.Prelude.{◌<◌, ◌≤◌, length, IfSome};
+ghost use Rattle.std.specs.Iterator.{at_most};
 
 use input::read_full;
 use report::answer::{answer, answer_space, input_space};
@@ -39,7 +40,7 @@ fn asked(mut words: Words) -> Command {
     read_command(n, mode, a, b, c)
 }
 
-// Writes the answer to an input, by way of a buffer. (`vmdkmap` tells elsewhere, and in other words, that it is too long.)
+// Writes the answer to an input, by way of a buffer. (A function of its own: `vmdkmap` tells on standard error, and in other words, that an answer is too long.)
 fn respond(rt: &impl Print, d: &[u8], asked: Command, out: &mut [u8]) -> io::Result<()> {
     let n = answer(d, asked, out);
     match out.get(..n) {
@@ -55,7 +56,7 @@ fn read_file(file: &mut impl Read, input: &mut [u8]) -> usize
     read_full(file, input).unwrap_or(0)
 }
 
-// Writes the answer to a file.
+// Writes the answer to a file. (Fixed memory, no heap: an array and how much of it is the input, here and in `main`.)
 fn run(rt: &impl Print, file: &mut impl Read, asked: Command) -> io::Result<()> {
     let mut input = input_space();
     let n = read_file(file, &mut input);
@@ -82,9 +83,7 @@ fn run_case(rt: &(impl Files + Print), l: &[u8]) -> io::Result<()> {
     };
     match asked {
         Command::Usage => rt.println("usage"),
-        Command::Report => run(rt, &mut file, asked),
-        Command::Map(_, _) => run(rt, &mut file, asked),
-        Command::Walk(_, _, _) => run(rt, &mut file, asked),
+        Command::Report | Command::Map(_, _) | Command::Walk(_, _, _) => run(rt, &mut file, asked),
     }
 }
 
@@ -100,15 +99,29 @@ fn first_case(list: &[u8]) -> Option<(&[u8], &[u8])>
     Some((line, rest))
 }
 
-// Runs case after case; how many there were.
-fn run_all(rt: &(impl Files + Print), mut list: &[u8]) -> io::Result<usize> {
-    let mut n = 0;
-    while let Some((line, rest)) = first_case(list) {
-        run_case(rt, line)?;
-        list = rest;
-        n += 1;
+// The cases of a list, or of what is left of it. (As `Words`, but for the cut: generic, the cut would be a closure, and that it leaves less a premise of both.)
+#[derive(Clone, Copy)]
+struct Cases<'a>(&'a [u8]);
+
+impl<'a> Iterator for Cases<'a> {
+    type Item = &'a [u8];
+
+    ghost remaining = { λ s. at_most (length s.0.now) };
+
+    fn next(&mut self) -> Option<&'a [u8]> {
+        let (line, rest) = first_case(self.0)?;
+        self.0 = rest;
+        Some(line)
     }
-    Ok(n)
+}
+
+// Runs case after case; how many there were.
+fn run_all(rt: &(impl Files + Print), list: &[u8]) -> io::Result<usize> {
+    let cases = Cases(list);
+    for line in cases {
+        run_case(rt, line)?;
+    }
+    Ok(cases.count())
 }
 
 // Reads the list, runs its cases and counts them.

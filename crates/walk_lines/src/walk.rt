@@ -1,4 +1,5 @@
-// The lines of a walk.
+// The lines of a walk. `d`, the walk's numbers and `answer` stay parameters of their own: `put_walk` has them in its public signature, and a
+// struct of them would be no plainer. A `usize` is cast, since there is no `From` for it.
 ghost use Rattle.maps.specs.Walk.{walk_of};
 ghost use Rattle.puts.specs.Put.{Put};
 ghost use Rattle.phrases.specs.Line.{line, lines_from};
@@ -13,6 +14,7 @@ use tables::build::no_table;
 use tables::table::{Piece, PieceSource, Row, Source, Stop, Table, Walked};
 
 // Puts a raw piece's place in its file, from its offset to the line's end.
+#[tactic(auto, using(phrases::proofs::Lines::lines))]
 fn raw_piece(offset: u64, row: u64, writable: bool, name: &[u8], answer: &mut Answer<'_>)
     ensures { Adds answer.old (line (raw_words offset row writable name.now)) answer.new }
 {
@@ -22,7 +24,8 @@ fn raw_piece(offset: u64, row: u64, writable: bool, name: &[u8], answer: &mut An
     answer.word(name, End::Line);
 }
 
-// Puts where a piece's bytes come from, to the line's end; s is its row's source.
+// Puts where a piece's bytes come from, to the line's end; s is its row's source. Not by `Display`, here and in `stop_word`: `write!` promises
+// its bytes only where it answers `Ok`.
 fn piece_source(d: &[u8], s: Source, p: Piece, answer: &mut Answer<'_>)
     ensures { Adds answer.old (line (piece_words d.now s p p.source)) answer.new }
 {
@@ -34,6 +37,7 @@ fn piece_source(d: &[u8], s: Source, p: Piece, answer: &mut Answer<'_>)
 }
 
 // Puts the line of a piece of a source.
+#[tactic(auto, using(phrases::proofs::Lines::lines, crate::proofs::Walks::piece_words_more), unfolding(crate::specs::Walk::piece_from))]
 fn piece_line(d: &[u8], s: Source, p: Piece, answer: &mut Answer<'_>)
     ensures { Adds answer.old (piece_from d.now s p) answer.new }
 {
@@ -43,10 +47,11 @@ fn piece_line(d: &[u8], s: Source, p: Piece, answer: &mut Answer<'_>)
 }
 
 // Puts the lines of some pieces.
+#[tactic(auto, using(puts::proofs::Puts::joins, crate::proofs::Walks::pieces_next), unfolding(crate::specs::Walk::piece_line, phrases::specs::Line::lines_from))]
 fn piece_lines(d: &[u8], rows: &[Row], pieces: &[Piece], answer: &mut Answer<'_>)
     ensures { Adds answer.old (lines_from (piece_line d.now rows.now) 0 pieces.now) answer.new }
 {
-    // The place is read, so that a proof knows that it is a number of 64 bits.
+    // The place is read, so that a proof knows that it is a number of 64 bits: without it the loop's first goal does not close.
     let _at = answer.at;
     for p in pieces {
         piece_line(d, row_source(rows, p.row), *p, answer);
@@ -54,6 +59,7 @@ fn piece_lines(d: &[u8], rows: &[Row], pieces: &[Piece], answer: &mut Answer<'_>
 }
 
 // Puts why a walk stopped.
+#[tactic(auto, using(puts::proofs::Puts::joins))]
 fn stop_word(s: Result<Stop, Fault>, answer: &mut Answer<'_>)
     ensures { Adds answer.old (stop_text s) answer.new }
 {
@@ -61,13 +67,14 @@ fn stop_word(s: Result<Stop, Fault>, answer: &mut Answer<'_>)
         Ok(Stop::Done) => answer.word(b"done at", End::Word),
         Ok(Stop::More) => answer.word(b"more at", End::Word),
         Err(fault) => {
-            answer.field(b"refused", fault.number() as u64, End::Word);
+            answer.field(b"refused", u64::from(fault.number()), End::Word);
             answer.word(b"0 at", End::Word);
         }
     }
 }
 
 // Puts a walk's last line.
+#[tactic(auto, using(phrases::proofs::Lines::lines), unfolding(crate::specs::Walk::stop_line))]
 fn stop_line(w: Walked, answer: &mut Answer<'_>)
     ensures { Adds answer.old (stop_line w) answer.new }
 {
@@ -88,6 +95,7 @@ fn table_walk(d: &[u8], t: &Table, offset: u64, length: u64, places: usize, answ
 }
 
 // Puts the lines of a walk of a descriptor's disk, or of its refusal.
+#[tactic(auto, using(phrases::proofs::Openings::unless_is), unfolding(crate::specs::Walk::walk_lines_of))]
 fn walk_text(d: &[u8], offset: u64, length: u64, places: usize, answer: &mut Answer<'_>)
     ensures { Adds answer.old (walk_lines_of d.now offset length places) answer.new }
 {
@@ -98,7 +106,7 @@ fn walk_text(d: &[u8], offset: u64, length: u64, places: usize, answer: &mut Ans
     }
 }
 
-// Puts the lines of a walk of a descriptor's disk.
+// Puts the lines of a walk of a descriptor's disk. Not one function with `put_map`: that would take a closure, and a proof at each caller.
 pub fn put_walk(d: &[u8], offset: u64, length: u64, places: usize, out: &mut [u8]) -> usize
     ensures { Put out.old 0 (walk_lines_of d.now offset length places) result out.new }
 {

@@ -1,7 +1,6 @@
 -- Assumes nothing.
 use native.Mathlib.Omega.{arith}
 use Rattle.std.proofs.lemmas.Result.{err_from_is_err_and}
-use Rattle.descriptor.proofs.Steps.{lines}
 use Rattle.descriptor.proofs.Turns.{told_as, begin_stands, first_answer, first_left, turn_nothing, turn_set, turn_extent, stop_full, stop_refused, end_refused, end_sound}
 use Rattle.descriptor.proofs.read.put_lines.Goals as goal
 
@@ -16,23 +15,8 @@ returns-in_err-check_bytes-clause-extents c = first_left c.args.d.now c.in_err-c
 pub loop-more-init : goal.loop-more-init
 loop-more-init c = begin_stands c.args.d.now c.args.into.now c.in_ok-check_bytes.ensures c.no_desc-desc.ensures
 
-pub slice_bounds-parse_descriptor_line-count : goal.slice_bounds-parse_descriptor_line-count
-slice_bounds-parse_descriptor_line-count c = search lines
-
-pub slice_bounds-parse_descriptor_line-start : goal.slice_bounds-parse_descriptor_line-start
-slice_bounds-parse_descriptor_line-start c = search lines
-
-pub slice_bounds-parse_descriptor_line-end : goal.slice_bounds-parse_descriptor_line-end
-slice_bounds-parse_descriptor_line-end c = search lines
-
-pub loop-more-smaller-in-Nothing : goal.loop-more-smaller-in-Nothing
-loop-more-smaller-in-Nothing c = search lines
-
 pub loop-more-preserved-in-Nothing : goal.loop-more-preserved-in-Nothing
 loop-more-preserved-in-Nothing c = turn_nothing c.loop-more.invariant c.loop-more-test.true c.line_end-e.ensures (told_as _ c.parse_descriptor_line-said.ensures c.told.ensures c.in_ok-told.was c.in-Nothing.is)
-
-pub loop-more-smaller-in-Set : goal.loop-more-smaller-in-Set
-loop-more-smaller-in-Set c = search lines
 
 pub loop-more-preserved-in-Set : goal.loop-more-preserved-in-Set
 loop-more-preserved-in-Set c = turn_set c.loop-more.invariant c.loop-more-test.true c.line_end-e.ensures (told_as _ c.parse_descriptor_line-said.ensures c.told.ensures c.in_ok-told.was c.in-Set.is) c.set.ensures
@@ -42,9 +26,6 @@ returns-then-count-ge-MOST-clause-head c = rw c.at.ensures (stop_full c.loop-mor
 
 pub returns-then-count-ge-MOST-clause-extents : goal.returns-then-count-ge-MOST-clause-extents
 returns-then-count-ge-MOST-clause-extents c = (stop_full c.loop-more.invariant c.loop-more-test.true c.line_end-e.ensures (told_as _ c.parse_descriptor_line-said.ensures c.told.ensures c.in_ok-told.was c.in-Extent.is) (omega arith)).1
-
-pub loop-more-smaller : goal.loop-more-smaller
-loop-more-smaller c = search lines
 
 pub loop-more-preserved : goal.loop-more-preserved
 loop-more-preserved c = turn_extent c.loop-more.invariant c.loop-more-test.true c.line_end-e.ensures (told_as _ c.parse_descriptor_line-said.ensures c.told.ensures c.in_ok-told.was c.in-Extent.is) (omega arith) (omega arith) c.with_size-sizes.ensures

@@ -1,3 +1,4 @@
+-- The two goals at which the check alone gives up: the end of a run at a character of one byte, and of more.
 use mathlib.Core.Path.{ap, ◌∙◌}
 use Rattle.text.specs.Blank.{blank}
 use Rattle.text.proofs.Runs.{offs, low_off}
