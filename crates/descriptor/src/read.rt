@@ -72,7 +72,7 @@ fn told(said: Result<Said, Fault>, line: usize) -> Result<Said, Refusal>
     said.map_err(|fault| fault.at(line))
 }
 
-// Reads line by line and stores each extent, up to the first refusal; answers the values and how many extents there are. A line is as long as it is, so the loop goes by the place.
+// Reads line by line and stores each extent, up to the first refusal; answers the values and how many extents there are. A line is as long as it is, and its place is asked for, so the loop goes by the place; the flag says whether a line is left, so that the invariant is one equation (`left_lines`).
 #[tactic(auto, using(crate::proofs::Steps::lines))]
 fn put_lines(d: &[u8], into: &mut Record) -> Result<(VmdkDesc, usize), Refusal>
     ensures head { result ≡ head_of (read_of d.now) }

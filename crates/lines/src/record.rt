@@ -29,7 +29,7 @@ pub enum VmdkAccessType {
     RW,
 }
 
-// VMDK extent information after parsing, before opening
+// VMDK extent information after parsing, before opening. (`Source` of tables is its twin: it holds bytes. The theorems name both types with their variants.)
 #[derive(Clone, Copy)]
 pub enum VmdkParsedStorage {
     // No access

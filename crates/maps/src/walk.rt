@@ -1,4 +1,4 @@
-// The walk over the disk, into a list of pieces that the caller lends.
+// The walk over the disk, into a list of pieces that the caller lends. (Table and list stay two parameters: one is read, the other written.)
 ghost use Rattle.std.specs.Prelude.{◌≡◌, length as len};
 ghost use Rattle.lines.specs.Record.{most};
 ghost use Rattle.maps.specs.Walk.{walk_of, walked, listed};

@@ -9,14 +9,14 @@ use Rattle.lines.specs.declared.record.Record.{Record}
 use Rattle.lines.specs.declared.record.Refusal.{Refusal}
 use Rattle.descriptor.specs.Read.{read_of}
 use Rattle.descriptor.specs.Into.{read_into}
-use Rattle.descriptor.proofs.Intos.{into_desc, into_count, into_read}
-use Rattle.tables.specs.Build.{no_table, build_of}
+use Rattle.descriptor.proofs.Intos.{into_desc, into_count, into_read, refused_none as read_none}
+use Rattle.tables.specs.Build.{no_table, rows_from, build_of}
 use Rattle.tables.specs.Into.{build_into}
 use Rattle.tables.specs.declared.table.Table.{Table}
-use Rattle.tables.proofs.Into.{into_empty, build_same, into_same}
+use Rattle.tables.proofs.Into.{into_empty, build_same, into_same, refused_none as build_none}
 use Rattle.phrases.specs.Line.{refused_line}
-use Rattle.phrases.specs.Opening.{Opened, version_or, opened, open_of, open_into, unless}
-use Rattle.lines.specs.Record.{Verdict}
+use Rattle.phrases.specs.Opening.{Opened, first, version_or, opened, open_of, open_into, unless}
+use Rattle.lines.specs.Record.{Verdict, read_in, no_record}
 
 -- what was read into any record builds as what is read
 module _ (d : List ℕ) (r : Record) where
@@ -32,14 +32,9 @@ module _ (d : List ℕ) {x : Refusal} (e : Err x ≡ (read_of d).verdict) where
   unfolding open_of
   read_refused = rw (← e)
 
-  pub read_left : (t : Table) → t ≡ open_into d t
-  unfolding open_into
-  read_left t = rw (← e)
-
 module _ (d : List ℕ) {x : Record} (z : Record) (e : (Ok tt) ≡ (read_of d).verdict) (p : x ≡ read_into d z) where
-  pub built_left : {u : Table} (t : Table) → u ≡ build_into x t → u ≡ open_into d t
-  unfolding open_into
-  built_left t h = rw (← e, ← same_into d z t, ← p) h
+  pub built_left : {u : Table} (t : Table) → u ≡ build_into x t → u ≡ build_into (read_of d).descriptor t
+  built_left t h = rw (← same_into d z t, ← p) h
 
   told : {v : Verdict} → v ≡ (build_of x).verdict → (build_of (read_of d).descriptor).verdict ≡ v
   told q = rw (← same_build d z, ← p) (sym q)
@@ -57,7 +52,38 @@ module _ (d : List ℕ) {x : Record} (z : Record) (e : (Ok tt) ≡ (read_of d).v
   unfolding open_of
   built_made q h n = let g = told q in rw (h, n, into_empty x (sym q), p, same_build d z)
 
-pub ruleset opens = (read_refused, read_left, built_sound, built_refused, rules)
+pub ruleset opens = (read_refused, built_sound, built_refused, rules)
+
+-- ---- what opening leaves
+sound_by : (v : Verdict) (n : ℕ) {m : ℕ} → Ok m ≡ version_or v n → v ≡ (Ok tt)
+sound_by (Ok tt) n e = refl
+sound_by (Err k) n {m} e = absurd cc
+
+refused_by : (v : Verdict) (n : ℕ) {k : Refusal} → Err k ≡ version_or v n → v ≡ Err k
+refused_by (Ok tt) n e = absurd cc
+refused_by (Err k) n e = cc
+
+-- an empty record builds an empty table
+none_builds : (build_of no_record).table ≡ no_table
+unfolding build_of read_in rows_from
+none_builds = refl
+
+first_none : (d : List ℕ) (v : Verdict) {k : Refusal} → (read_of d).verdict ≡ v → first v (build_of (read_of d).descriptor).verdict ≡ Err k → (build_of (read_of d).descriptor).table ≡ no_table
+first_none d (Ok tt) {k} e f = build_none (read_of d).descriptor k f
+first_none d (Err x) e f = rw (read_none d x e) none_builds
+
+module _ (d : List ℕ) where
+  pub left_sound : {m : ℕ} {u : Table} (t : Table) → Ok m ≡ opened (open_of d) → u ≡ build_into (read_of d).descriptor t → u ≡ open_into d t
+  unfolding open_into
+  left_sound t e h = let g = sound_by (open_of d).verdict (open_of d).version e in rw g h
+
+  pub left_refused : {k : Refusal} {u : Table} (t : Table) → Err k ≡ opened (open_of d) → u ≡ no_table → u ≡ open_into d t
+  unfolding open_into
+  left_refused t e h = let g = refused_by (open_of d).verdict (open_of d).version e in rw g h
+
+  pub made_refused : {k : Refusal} {u : Table} → Err k ≡ opened (open_of d) → u ≡ no_table → u ≡ (open_of d).table
+  unfolding open_of
+  made_refused {k} e h = let g = refused_by (open_of d).verdict (open_of d).version e in rw h (sym (first_none d (read_of d).verdict refl g))
 
 -- ---- what opening tells of the definition
 -- a text where there is a version, and else the line of the refusal

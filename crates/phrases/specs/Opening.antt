@@ -2,7 +2,7 @@
 use Rattle.std.specs.Prelude.{ℕ, List, Result, Ok, Err}
 use Rattle.descriptor.specs.Read.{Read, read_of}
 use Rattle.lines.specs.declared.record.Refusal.{Refusal}
-use Rattle.tables.specs.Build.{Built, build_of}
+use Rattle.tables.specs.Build.{Built, no_table, build_of}
 use Rattle.tables.specs.Into.{build_into}
 use Rattle.tables.specs.declared.table.Table.{Table}
 use Rattle.phrases.specs.Line.{refused_line}
@@ -35,13 +35,13 @@ version_or (Err r) version = Err r
 abbrev pub opened : Opened → Result ℕ Refusal
 opened o = version_or o.verdict o.version
 
--- the lent table after opening: as it was where the read is refused, and otherwise what the build leaves in it
-abbrev pub if_read : Verdict → Table → Table → Table
-if_read (Ok tt) built t = built
-if_read (Err r) built t = t
+-- the lent table after opening: empty where either is refused, and otherwise what the build leaves in it
+abbrev pub or_none : Verdict → Table → Table
+or_none (Ok tt) built = built
+or_none (Err r) built = no_table
 
 unfoldable pub open_into : List ℕ → Table → Table
-open_into d t = if_read (read_of d).verdict (build_into (read_of d).descriptor t) t
+open_into d t = or_none (open_of d).verdict (build_into (read_of d).descriptor t)
 
 -- a refused read or build writes only the refusal
 abbrev pub unless : Verdict → List ℕ → List ℕ

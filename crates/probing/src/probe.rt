@@ -45,7 +45,7 @@ fn probe_line(l: &[u8]) -> Option<bool>
     probe_key(l, i)
 }
 
-// The lines one after the other: the first that answers. A line is as long as it is, so the loop goes by the place.
+// The lines one after the other: the first that answers. A line is as long as it is, so the loop goes by the place. (By `split` and `find_map` the proof did not close.)
 #[tactic(auto, using(crate::proofs::Probing::probing))]
 fn probe_lines(d: &[u8]) -> bool
     requires { length d.now ≤ most_bytes }

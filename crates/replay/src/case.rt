@@ -1,4 +1,4 @@
-// One case: a descriptor and its queries. (What is written to, the case's bytes and the table stand side by side: a struct of the three would be taken apart in each function.)
+// One case: a descriptor and its queries. (What is written to, the case's bytes and the table stay parameters: the first two are handed on, and a struct of them would be no plainer than two names.)
 use crate::{line, out};
 use descriptor::empty::no_record;
 use descriptor::read::parse_descriptor_file;
@@ -9,28 +9,27 @@ use std::io;
 use tables::build::{build, no_table};
 use tables::table::{Piece, Table, Walked};
 
-// A query, with the first number as the case file has it (FORMAT.md): 0 for a map, a walk otherwise.
+// A query: an offset and a length, and for a walk the room for its pieces.
 #[derive(Drop)]
-struct Query {
-    what: u8,
-    offset: u64,
-    length: u64,
-    places: u16,
+enum Query {
+    Map(u64, u64),
+    Walk(u64, u64, u16),
 }
 
 // How many bytes of a case file a query has.
 pub(crate) const QUERY: usize = 19;
 
-// The query that stands at the start of some bytes.
+// The query that stands at the start of some bytes (FORMAT.md): a map where its first byte is 0, a walk otherwise.
 fn read_query(b: &[u8]) -> Option<Query> {
     let (what, b) = b.split_first()?;
     let (offset, b) = b.split_first_chunk()?;
     let (length, b) = b.split_first_chunk()?;
-    Some(Query {
-        what: *what,
-        offset: u64::from_le_bytes(*offset),
-        length: u64::from_le_bytes(*length),
-        places: u16::from_le_bytes(*b.first_chunk()?),
+    let offset = u64::from_le_bytes(*offset);
+    let length = u64::from_le_bytes(*length);
+    let places = u16::from_le_bytes(*b.first_chunk()?);
+    Some(match *what {
+        0 => Query::Map(offset, length),
+        _ => Query::Walk(offset, length, places),
     })
 }
 
@@ -55,19 +54,17 @@ fn walk(rt: &impl Print, c: &[u8], t: &Table, w: Walked, pieces: &[Piece]) -> io
 
 // The answer to a query.
 fn reply(rt: &impl Print, c: &[u8], t: &Table, q: Query) -> io::Result<()> {
-    let Query {
-        what,
-        offset,
-        length,
-        places,
-    } = q;
-    if what == 0 {
-        let m = get_mapping(t, offset, length);
-        return out::line(rt, c, line::mapping(t, m));
+    match q {
+        Query::Map(offset, length) => {
+            let m = get_mapping(t, offset, length);
+            out::line(rt, c, line::mapping(t, m))
+        }
+        Query::Walk(offset, length, places) => {
+            let mut pieces = no_pieces();
+            let w = walk_in(t, &mut pieces, usize::from(places), offset, length);
+            walk(rt, c, t, w, &pieces)
+        }
     }
-    let mut pieces = no_pieces();
-    let w = walk_in(t, &mut pieces, usize::from(places), offset, length);
-    walk(rt, c, t, w, &pieces)
 }
 
 // The answers to the queries, one after the other; their number is at a place, and they stand after it.

@@ -1,4 +1,4 @@
-// Writing a line of an answer.
+// Writing a line of an answer. (What is written to and the case's bytes stay two parameters, as in case.rt; a struct of them would be no plainer than two names.)
 use crate::line::Line;
 use lines::record::Text;
 use puts::put::{put_byte, put_decimal};

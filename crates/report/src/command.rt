@@ -37,7 +37,7 @@ fn places(c: &[u8]) -> Option<usize>
     usize::try_from(number(c, MOST as u64)?).ok()
 }
 
-// What n arguments ask, the first of which is the mode, if it is anything that is known. The texts stay beside each other, as the public
+// What n arguments ask, the first of which is the mode, if it is anything that is known. The texts, here and in `range`, stay beside each other, as the public
 // signature of `read_command` has them.
 #[tactic(auto, unfolding(crate::specs::Command::command_of, crate::specs::Command::places_of))]
 fn known(n: usize, mode: &[u8], a: &[u8], b: &[u8], c: &[u8]) -> Option<Command>

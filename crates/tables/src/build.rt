@@ -1,4 +1,4 @@
-// Building the extent table: rows follow each other from 0, one for each extent. The record and the table are lent. (Line, start and end stay three parameters, as in `open_source`, which the promise names.)
+// Building the extent table: rows follow each other from 0, one for each extent. The record and the table are lent. (Line, start and end stay three parameters, as in `row_of`, which `build_of` rests on.)
 ghost use Rattle.std.specs.Prelude.{◌≡◌, [], length, IfOk};
 ghost use Rattle.lines.specs.Record.{filled, read_in};
 ghost use Rattle.tables.specs.Build.{row_of, no_row, no_table, build_of};

@@ -2,7 +2,7 @@
 use lines::record::{Fault, MOST, Text, VmdkAccessType};
 use text::sector::Bytes;
 
-// Where a row's bytes come from. (`VmdkParsedStorage` is its twin on purpose: it holds sectors as they were read, this one bytes as they were built.)
+// Where a row's bytes come from. (`VmdkParsedStorage` is its twin: it holds sectors as they were read, this one bytes as they were built. The theorems name both types with their variants.)
 #[derive(Clone, Copy)]
 pub enum Source {
     // No access

@@ -1,6 +1,6 @@
 -- Whole characters can be passed over: a text is UTF-8 from a place on exactly if it is from behind them on.
 -- A byte below 80 is one character, and so is a first byte of Table 3-7 with the bytes that its row asks for.
-use Rattle.std.specs.Prelude.{Some}
+use Rattle.std.specs.Prelude.{Option, None, Some}
 use Prim.Native.Nat.{ℕ, zero, suc, ◌+◌, ◌-◌, ◌*◌, ◌%◌, ◌^◌, ◌≤◌, ◌<◌}
 use native.Mathlib.Omega.{arith}
 use native.Mathlib.Nat.{add-zero}
@@ -69,7 +69,7 @@ pair_char t at h p q l u =
 
 -- three bytes, of which the first asks for a second in lo to hi
 module _ (t : List ℕ) (at : ℕ) (h : at + 3 ≤ length t) where
-  triple_char : {lo hi : ℕ} → lead_of (get_or t at 0) ≡ Some (2, lo, hi, 0x10) → lo ≤ get_or t (at + 1) 0 → get_or t (at + 1) 0 ≤ hi → 0x80 ≤ get_or t (at + 2) 0 → get_or t (at + 2) 0 ≤ 0xBF → width_in (char_at t at) ≡ 3
+  triple_char : {lo hi : ℕ} → lead_of (get_or t at 0) ≡ Some (2, lo, hi, 0x10) → lo ≤ get_or t (at + 1) 0 → get_or t (at + 1) 0 ≤ hi → 0x80 ≤ get_or t (at + 2) 0 → get_or t (at + 2) 0 ≤ 0xBF → width_in (char_at t at) ≡ Some 3
   unfolding tail_at
   triple_char {lo} {hi} r l u m v =
       let b = get_or t at 0 in
@@ -83,7 +83,7 @@ module _ (t : List ℕ) (at : ℕ) (h : at + 3 ≤ length t) where
       rw (s₁, s₂, within_in lo hi x l u, p, s₃, within_in 0x80 0xBF y m v, s₄)
 
   -- the rows of E0 to EF
-  triple_rows : 0xE0 ≤ get_or t at 0 → get_or t at 0 ≤ 0xEF → 0x80 ≤ get_or t (at + 1) 0 → get_or t (at + 1) 0 ≤ 0xBF → 0x80 ≤ get_or t (at + 2) 0 → get_or t (at + 2) 0 ≤ 0xBF → (get_or t at 0 ≡ 0xE0 → 0xA0 ≤ get_or t (at + 1) 0) → (get_or t at 0 ≡ 0xED → get_or t (at + 1) 0 ≤ 0x9F) → width_in (char_at t at) ≡ 3
+  triple_rows : 0xE0 ≤ get_or t at 0 → get_or t at 0 ≤ 0xEF → 0x80 ≤ get_or t (at + 1) 0 → get_or t (at + 1) 0 ≤ 0xBF → 0x80 ≤ get_or t (at + 2) 0 → get_or t (at + 2) 0 ≤ 0xBF → (get_or t at 0 ≡ 0xE0 → 0xA0 ≤ get_or t (at + 1) 0) → (get_or t at 0 ≡ 0xED → get_or t (at + 1) 0 ≤ 0x9F) → width_in (char_at t at) ≡ Some 3
   triple_rows p q l u m v f g =
       let b = get_or t at 0 in
       by_test (eqb b 0xE0)
@@ -125,17 +125,17 @@ low_run (suc n) t at h l =
     (pass t (at + n) (get_or t (at + n) 0) 1 (char_low t (at + n) (omega arith) (l n (omega arith)))))
 
 -- Rules of `pair_at` and `triple_at`
-pub pass_not : (t : List ℕ) (at n : ℕ) → false ≡ true → width_in (char_at t at) ≡ n
+pub pass_not : (t : List ℕ) (at : ℕ) (n : Option ℕ) → false ≡ true → width_in (char_at t at) ≡ n
 pass_not t at n h = let z : ◌≡◌ {A = ℕ} 0 1 = cc in absurd (omega arith)
 
 module _ (t : List ℕ) (at : ℕ) where
-  pub pass_pair : 2 ≤ length t - at → 0xC2 ≤ get_or t at 0 → get_or t at 0 ≤ 0xDF → within 0x80 0xBF (get_or t (at + 1) 0) ≡ true → width_in (char_at t at) ≡ 2
+  pub pass_pair : 2 ≤ length t - at → 0xC2 ≤ get_or t at 0 → get_or t at 0 ≤ 0xDF → within 0x80 0xBF (get_or t (at + 1) 0) ≡ true → width_in (char_at t at) ≡ Some 2
   pass_pair h p q e =
       let u = within_out 0x80 0xBF (get_or t (at + 1) 0) e in
       let r = pair_char t at (omega arith) p q u.0 u.1 in
       rw r.1
 
-  pub pass_triple : 3 ≤ length t - at → 0xE0 ≤ get_or t at 0 → get_or t at 0 ≤ 0xEF → within 0x80 0xBF (get_or t (at + 1) 0) ≡ true → within 0x80 0xBF (get_or t (at + 2) 0) ≡ true → not (eqb (get_or t at 0) 0xE0) || leb 0xA0 (get_or t (at + 1) 0) ≡ true → not (eqb (get_or t at 0) 0xED) || leb (get_or t (at + 1) 0) 0x9F ≡ true → width_in (char_at t at) ≡ 3
+  pub pass_triple : 3 ≤ length t - at → 0xE0 ≤ get_or t at 0 → get_or t at 0 ≤ 0xEF → within 0x80 0xBF (get_or t (at + 1) 0) ≡ true → within 0x80 0xBF (get_or t (at + 2) 0) ≡ true → not (eqb (get_or t at 0) 0xE0) || leb 0xA0 (get_or t (at + 1) 0) ≡ true → not (eqb (get_or t at 0) 0xED) || leb (get_or t (at + 1) 0) 0x9F ≡ true → width_in (char_at t at) ≡ Some 3
   pass_triple h p q e f k l =
       let b = get_or t at 0 in
       let x = get_or t (at + 1) 0 in
@@ -146,17 +146,17 @@ module _ (t : List ℕ) (at : ℕ) where
 pub ruleset multis = (pass_not, pass_pair, pass_triple, rules)
 
 -- Rules of `width_at`
-pub width_is : (t : List ℕ) (at n : ℕ) {k : Bool} → (k ≡ true → width_in (char_at t at) ≡ n) → k ≡ true → n ≡ width_in (char_at t at)
+pub width_is : (t : List ℕ) (at n : ℕ) {k : Bool} → (k ≡ true → width_in (char_at t at) ≡ Some n) → k ≡ true → Some n ≡ width_in (char_at t at)
 width_is t at n f q = sym (f q)
 
 module _ (t : List ℕ) (at : ℕ) {r : Char} (p : r ≡ char_at (take (length t - at) (drop at t)) 0) where
-  pub width_char : {c n : ℕ} → r ≡ Scalar c n → n ≡ width_in (char_at t at)
+  pub width_char : {c n : ℕ} → r ≡ Scalar c n → Some n ≡ width_in (char_at t at)
   width_char q = rw (← char_part t at, ← p, q)
 
-  pub width_bad : r ≡ Bad → 0 ≡ width_in (char_at t at)
+  pub width_bad : r ≡ Bad → None ≡ width_in (char_at t at)
   width_bad q = rw (← char_part t at, ← p, q)
 
-  pub width_end : r ≡ End → 0 ≡ width_in (char_at t at)
+  pub width_end : r ≡ End → None ≡ width_in (char_at t at)
   width_end q = rw (← char_part t at, ← p, q)
 
 pub ruleset widths = (width_is, width_char, width_bad, width_end, rules)
@@ -183,11 +183,11 @@ module _ (t : List ℕ) (at n : ℕ) (h : at < length t) (j : n ≤ length (take
       (join t 0 (at + 1) (at + 1 + n) (join t 0 at (at + 1) i (pass t at (get_or t at 0) 1 (char_low t at h l)))
       (low_run n t (at + 1) low_end (λ k m. rw (part_rest (at + 1) t, get_or-drop (at + 1) t k 0) at (r k m))))
 
-module _ (t : List ℕ) (at n : ℕ) (p : n ≡ width_in (char_at t at)) (q : n ≡ 0 → ⊥) where
+module _ (t : List ℕ) (at n : ℕ) {r : Option ℕ} (p : r ≡ width_in (char_at t at)) (q : r ≡ Some n) where
   stands : (ch : Char) → char_at t at ≡ ch → (c : ℕ) × (char_at t at ≡ Scalar c n)
-  stands (Scalar c w) e = let g : n ≡ w = rw e at p in (c, e ∙ ap (Scalar c) (sym g))
-  stands Bad e = absurd (q (rw e at p))
-  stands End e = absurd (q (rw e at p))
+  stands (Scalar c w) e = let f : r ≡ Some w = rw e at p in let g : n ≡ w = cc in (c, e ∙ ap (Scalar c) (sym g))
+  stands Bad e = let f : r ≡ None = rw e at p in absurd cc
+  stands End e = let f : r ≡ None = rw e at p in absurd cc
 
   passes : Passed t at (at + n)
   passes = let r = stands (char_at t at) refl in pass t at r.0 n r.1
@@ -202,13 +202,13 @@ module _ (t : List ℕ) (at n : ℕ) (p : n ≡ width_in (char_at t at)) (q : n 
   valid_wide i = join t 0 at (at + n) i passes
 
 module _ (t : List ℕ) (at : ℕ) (h : at < length t) (i : Passed t 0 at) where
-  no_width : (ch : Char) → char_at t at ≡ ch → width_in (char_at t at) ≡ 0 → sound (text_at t at) ≡ false
+  no_width : (ch : Char) → char_at t at ≡ ch → width_in (char_at t at) ≡ None → sound (text_at t at) ≡ false
   unfolding sound
-  no_width (Scalar c w) e q = let g : w ≡ 0 = rw e at q in let f = wide_at t at refl e in absurd (omega arith)
+  no_width (Scalar c w) e q = let g : Some w ≡ None = rw e at q in absurd cc
   no_width Bad e q = rw (text_bad t at refl e)
   no_width End e q = absurd (omega (arith, end_at t at e))
 
-  pub valid_bad : {n : ℕ} → n ≡ width_in (char_at t at) → n ≡ 0 → false ≡ sound (text_at t 0)
+  pub valid_bad : {n : Option ℕ} → n ≡ width_in (char_at t at) → n ≡ None → false ≡ sound (text_at t 0)
   unfolding Passed
   valid_bad p q = sym (i.2 ∙ no_width (char_at t at) refl (sym p ∙ q))
 

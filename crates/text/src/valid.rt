@@ -1,5 +1,5 @@
-// Whether a text is UTF-8, with runs of bytes below 80 passed over in blocks. (`t` and `at` stay two, and a place within the text a clause: the promises speak of `char_at t at`, and a struct of them would be no plainer.)
-ghost use Rattle.std.specs.Prelude.{◌≡◌, ◌<◌, true, length};
+// Whether a text is UTF-8, with runs of bytes below 80 passed over in blocks. (`t` and `at` stay two, and a place within the text a clause, here and in words.rt: the promises speak of `char_at t at`, and a struct of them would be no plainer.)
+ghost use Rattle.std.specs.Prelude.{◌≡◌, ◌<◌, Some, true, length};
 ghost use Rattle.text.specs.inside.Blocks.{width_in};
 ghost use Rattle.text.specs.Utf8.{char_at};
 ghost use Rattle.text.specs.Text.{sound, text_at};
@@ -7,11 +7,11 @@ ghost use Rattle.text.specs.Text.{sound, text_at};
 use crate::blocks::past_blocks;
 use crate::utf8::{Char, next_char, trails};
 
-// Whether a character of two bytes stands at a place. (The place is within the text, so that the subtraction fits, here and below; `checked_sub` would be no plainer.)
+// Whether a character of two bytes stands at a place. (The place is within the text, so that the subtraction fits, here and below. By a pattern, `[0xC2..=0xDF, 0x80..=0xBF, ..]`, the proof did not close.)
 #[tactic(auto, using(crate::proofs::Passes::multis))]
 fn pair_at(t: &[u8], at: usize) -> bool
     requires { at < length t.now }
-    ensures { result ≡ true → width_in (char_at t.now at) ≡ 2 }
+    ensures { result ≡ true → width_in (char_at t.now at) ≡ Some 2 }
 {
     if t.len() - at < 2 {
         return false;
@@ -23,7 +23,7 @@ fn pair_at(t: &[u8], at: usize) -> bool
 #[tactic(auto, using(crate::proofs::Passes::multis))]
 fn triple_at(t: &[u8], at: usize) -> bool
     requires { at < length t.now }
-    ensures { result ≡ true → width_in (char_at t.now at) ≡ 3 }
+    ensures { result ≡ true → width_in (char_at t.now at) ≡ Some 3 }
 {
     if t.len() - at < 3 {
         return false;
@@ -35,22 +35,22 @@ fn triple_at(t: &[u8], at: usize) -> bool
     matches!(b, 0xE0..=0xEF) & trails(x) & trails(t[at + 2]) & least & most
 }
 
-// How many bytes the character at a place has, or 0 where there is none. (0 and no Option: the promise names `width_in`, which says 0.)
+// How many bytes the character at a place has, if there is one.
 #[tactic(auto, using(crate::proofs::Passes::widths))]
-fn width_at(t: &[u8], at: usize) -> usize
+fn width_at(t: &[u8], at: usize) -> Option<usize>
     requires { at < length t.now }
     ensures { result ≡ width_in (char_at t.now at) }
 {
     if t[at] < 0xE0 {
         if pair_at(t, at) {
-            return 2;
+            return Some(2);
         }
     } else if triple_at(t, at) {
-        return 3;
+        return Some(3);
     }
     match next_char(&t[at..], 0) {
-        Char::Scalar(_, width) => width,
-        Char::Bad | Char::End => 0,
+        Char::Scalar(_, width) => Some(width),
+        Char::Bad | Char::End => None,
     }
 }
 
@@ -65,10 +65,9 @@ pub(crate) fn valid(t: &[u8]) -> bool
             at += 1 + past_blocks(&t[at + 1..], |x| x < 0x80);
             continue;
         }
-        let width = width_at(t, at);
-        if width == 0 {
+        let Some(width) = width_at(t, at) else {
             return false;
-        }
+        };
         at += width;
     }
     true

@@ -8,7 +8,7 @@ use crate::blank::is_blank;
 use crate::utf8::{Char, next_char, trails};
 use crate::valid::valid;
 
-// Where the character that ends at a place starts: before the bytes 80 to BF that stand there. It goes backwards while they do, so the loop goes by the place.
+// Where the character that ends at a place starts: before the bytes 80 to BF that stand there. (By `rposition` the proof did not close.)
 #[tactic(auto, using(crate::proofs::Ends::backs))]
 fn start_of(t: &[u8], end: usize) -> usize
     requires { (0 < end) × (end ≤ length t.now) }
@@ -21,7 +21,7 @@ fn start_of(t: &[u8], end: usize) -> usize
     at
 }
 
-// Whether a blank stands at a place.
+// Whether a blank stands at a place, which is within the text (a clause, as in valid.rt).
 #[tactic(auto, using(crate::proofs::Ends::blanks))]
 fn blank_at(t: &[u8], at: usize) -> bool
     requires { at < length t.now }

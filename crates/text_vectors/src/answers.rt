@@ -21,7 +21,7 @@ fn yes(b: bool) -> Answer {
     bare(u64::from(b))
 }
 
-// A pair of places. (`as`: a usize has no `From` to u64.)
+// A pair of places. (`as`, here and in `character`: a usize has no `From` to u64.)
 fn places(a: usize, b: usize) -> Answer {
     Answer {
         tag: 1,

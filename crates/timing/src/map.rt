@@ -1,4 +1,4 @@
-// Many mappings of one table, which is lent to each of them.
+// Many mappings of one table, which is lent to each of them. (Count, window and descriptor stay parameters, as C hands them over.)
 ghost use Rattle.std.specs.Prelude.{◌≡◌, ◌<◌};
 ghost use Rattle.timing.specs.Read.{table_in};
 ghost use Rattle.timing.specs.Map.{place_of, mapping_in, next_of, map_sum};
@@ -36,7 +36,7 @@ fn with_mapping(sum: u64, m: Mapping) -> u64
     fold(fold(sum, place), m.run)
 }
 
-// The offset after an offset: 4,096 further on, or drawn; below 2^31.
+// The offset after an offset: 4,096 further on, or drawn; below 2^31. (A bool, here and below: `next_of` and `map_sum`, which the promises name, are told by it.)
 fn next(ascending: bool, offset: u64) -> u64
     requires { offset < 2147483648 }
     ensures { result ≡ next_of ascending offset }

@@ -1,4 +1,4 @@
-// Reading a descriptor and building its table so many times, into a record and a table that are made once and lent again.
+// Reading a descriptor and building its table so many times, into a record and a table that are made once and lent again. (Count, window and descriptor stay parameters, as C hands them over.)
 ghost use Rattle.std.specs.Prelude.{◌≡◌};
 ghost use Rattle.descriptor.specs.Read.{read_of};
 ghost use Rattle.tables.specs.Into.{build_into};

@@ -1,4 +1,4 @@
-// Many walks of one table, into one list of pieces; both are lent.
+// Many walks of one table, into one list of pieces; both are lent. (Count, window and descriptor stay parameters, as C hands them over.)
 ghost use Rattle.std.specs.Prelude.{◌≡◌};
 ghost use Rattle.timing.specs.Read.{table_in};
 ghost use Rattle.timing.specs.Walk.{piece_in, pieces_in, walk_sum};
@@ -42,7 +42,7 @@ fn tours(t: &Table, window: u64, count: u64) -> u64
     sum
 }
 
-// The sum over so many walks of the table of a descriptor.
+// The sum over so many walks of the table of a descriptor. (`map_in` shares two lines with it; what the two share would take the loop as a closure, and its promise as a premise.)
 pub(crate) fn walk_in(d: &[u8], window: u64, count: u64) -> u64
     ensures { result ≡ walk_sum count (table_in d.now) window 0 0 }
 {

@@ -14,7 +14,7 @@ use std::io::Read;
 use std::rt::Files;
 use std::{fs, io};
 
-// The words of a line, or of what is left of it.
+// The words of a line, or of what is left of it. (`Cases` goes likewise, but for the cut: see there.)
 #[derive(Clone, Copy)]
 struct Words<'a>(&'a [u8]);
 

@@ -1,6 +1,6 @@
 -- What the code asks of several bytes at once, or of a place, so as not to read one character after the other.
 -- Only functions that are not exported promise these; what they come to is said by the definitions of Text.
-use Rattle.std.specs.Prelude.{ℕ, zero, suc, ◌≤◌, ◌<◌, List, Bool, true, false, ◌≡◌, length, get_or}
+use Rattle.std.specs.Prelude.{ℕ, Option, Some, None, zero, suc, ◌≤◌, ◌<◌, List, Bool, true, false, ◌≡◌, length, get_or}
 use Rattle.text.specs.Ranges.{pick, within}
 use Rattle.text.specs.Blank.{blank}
 use Rattle.text.specs.Text.{sound, text_at}
@@ -27,7 +27,7 @@ blank_in Bad = false
 blank_in End = false
 
 -- how many bytes a character has, or 0 where there is none
-abbrev pub width_in : Char → ℕ
-width_in (Scalar c w) = w
-width_in Bad = 0
-width_in End = 0
+abbrev pub width_in : Char → Option ℕ
+width_in (Scalar c w) = Some w
+width_in Bad = None
+width_in End = None

@@ -1,29 +1,12 @@
--- `open` meets its contract. The first refusal of the two stands, that of reading or that of building. Assumes nothing.
-use Rattle.std.proofs.lemmas.Result.{err_from_is_err_and}
-use Rattle.phrases.proofs.Openings.{read_refused, read_left, built_left, built_sound, built_refused, built_made}
+-- `open` meets its contract: what was built stands where both are sound, and an empty table where either is refused.
+use Rattle.phrases.proofs.Openings.{left_sound, left_refused, made_refused}
 use Rattle.phrases.proofs.opening.open.Goals as goal
 
-pub returns-in_err-parse_descriptor_file-clause-version : goal.returns-in_err-parse_descriptor_file-clause-version
-returns-in_err-parse_descriptor_file-clause-version c =
-    let p = err_from_is_err_and c.from_residual.result c.from_residual.ensures.1 in
-    rw (p.1, p.2) (read_refused _ c.in_err-parse_descriptor_file.ensures.0)
+pub returns-in-Ok-clause-left : goal.returns-in-Ok-clause-left
+returns-in-Ok-clause-left c = left_sound _ _ c.in-Ok.ensures.version c.in-Ok.ensures.built
 
-pub returns-in_err-parse_descriptor_file-clause-left : goal.returns-in_err-parse_descriptor_file-clause-left
-returns-in_err-parse_descriptor_file-clause-left c = read_left _ c.in_err-parse_descriptor_file.ensures.0 _
+pub returns-in-Err-clause-left : goal.returns-in-Err-clause-left
+returns-in-Err-clause-left c = left_refused _ _ c.in-Err.ensures.version c.no_table.ensures
 
-pub returns-in_err-build-clause-version : goal.returns-in_err-build-clause-version
-returns-in_err-build-clause-version c =
-    let p = err_from_is_err_and c.from_residual-in_err-build.result c.from_residual-in_err-build.ensures.1 in
-    rw (p.1, p.2) (built_refused _ _ c.in_ok-parse_descriptor_file.ensures.0 c.in_ok-parse_descriptor_file.ensures.1 c.in_err-build.ensures.0)
-
-pub returns-in_err-build-clause-left : goal.returns-in_err-build-clause-left
-returns-in_err-build-clause-left c = built_left _ _ c.in_ok-parse_descriptor_file.ensures.0 c.in_ok-parse_descriptor_file.ensures.1 _ c.in_err-build.ensures.1
-
-pub returns-clause-version : goal.returns-clause-version
-returns-clause-version c = built_sound _ _ c.in_ok-parse_descriptor_file.ensures.0 c.in_ok-parse_descriptor_file.ensures.1 c.in_ok-build.ensures.0
-
-pub returns-clause-left : goal.returns-clause-left
-returns-clause-left c = built_left _ _ c.in_ok-parse_descriptor_file.ensures.0 c.in_ok-parse_descriptor_file.ensures.1 _ c.in_ok-build.ensures.1
-
-pub returns-clause-made : goal.returns-clause-made
-returns-clause-made c = built_made _ _ c.in_ok-parse_descriptor_file.ensures.0 c.in_ok-parse_descriptor_file.ensures.1 c.in_ok-build.ensures.0 c.in_ok-build.ensures.1
+pub returns-in-Err-clause-made : goal.returns-in-Err-clause-made
+returns-in-Err-clause-made c n = made_refused _ c.in-Err.ensures.version c.no_table.ensures
