@@ -5,7 +5,6 @@ use native.Mathlib.Omega.{arith}
 use mathlib.Core.Path.{◌≡◌, refl, sym, ◌∙◌, ap, subst}
 use mathlib.Core.Bool.{Bool}
 use mathlib.Core.List.{List}
-use lib.ListN.{get_or}
 use borrow.Author.Tests.{le-leb, lt-leb}
 use Rattle.std.specs.Prelude.{Option, Some, None, Ok}
 use Rattle.lines.specs.Record.{most}
@@ -19,11 +18,10 @@ use Rattle.tables.specs.declared.table.Source.{Source}
 use Rattle.tables.specs.declared.table.Source.TheVariants.{NoAccess, Zero as Zeros, Flat}
 use Rattle.tables.specs.declared.table.ShallowMapping.TheVariants.{Zero, Raw}
 use Rattle.tables.specs.declared.table.Mapping.{Mapping}
-use Rattle.tables.specs.Build.{no_row}
-use Rattle.maps.specs.declared.halving.Hit.{Hit}
+use Rattle.maps.specs.declared.halving.Found.{Found}
 use Rattle.lines.specs.declared.record.Fault.TheVariants.{Inaccessible, OffsetTooLarge, CountTooLarge}
 use Rattle.maps.specs.Map.{Search, found, nowhere, writable, sourced, ended, refused, in_row, search_of, map_of}
-use Rattle.maps.specs.inside.Halving.{hit_of}
+use Rattle.maps.specs.inside.Halving.{found_of}
 use Rattle.maps.proofs.Halves.{Finds, search_finds}
 
 module _ (s : Source) (i within run n : ℕ) where
@@ -44,29 +42,27 @@ module _ (s : Source) (i within run n : ℕ) where
   source_flat {a} {b} {name} e k l q = let g : b.0 + within ≤ largest = omega (arith, k, l.0) in rw (e, le-leb _ _ g, q, l.1, k)
 
 -- the mapping that a row gives, or none
-abbrev by_row : Table → ℕ → ℕ → Option ℕ → ℕ → Mapping
+abbrev by_row : Table → ℕ → ℕ → Option (ℕ × Row) → ℕ → Mapping
 by_row t o asked None n = ended n
-by_row t o asked (Some i) n =
-    let r : Row = get_or t.rows i no_row in
-    sourced r.source i (o - r.start.0) (min asked (min (t.size.0 - o) (r.end.0 - o))) n
+by_row t o asked (Some (i, r)) n = sourced r.source i (o - r.start.0) (min asked (min (t.size.0 - o) (r.end.0 - o))) n
 
-in_row_is : (t : Table) (o asked : ℕ) (s : Search) → by_row t o asked (hit_of s).row (hit_of s).looked ≡ in_row t o asked s
+in_row_is : (t : Table) (o asked : ℕ) (s : Search) → by_row t o asked (found_of t.rows s).row (found_of t.rows s).looked ≡ in_row t o asked s
 unfolding in_row
 in_row_is t o asked (found i n) = refl
 in_row_is t o asked (nowhere n) = refl
 
--- of a row that a search ended at: it holds the offset, and is one of those that count
-abbrev Ends : List Row → ℕ → ℕ → Option ℕ → Type 0
-Ends rows o bound None = Unit {0}
-Ends rows o bound (Some i) = Finds rows o bound (found i 0)
+-- of a row that a search ended at: it holds the offset
+abbrev Ends : ℕ → Option (ℕ × Row) → Type 0
+Ends o None = Unit {0}
+Ends o (Some (i, r)) = (r.start.0 ≤ o) × (o < r.end.0)
 
-finds_ends : (rows : List Row) (o bound : ℕ) (s : Search) → Finds rows o bound s → Ends rows o bound (hit_of s).row
-finds_ends rows o bound (found i n) f = f
+finds_ends : (rows : List Row) (o bound : ℕ) (s : Search) → Finds rows o bound s → Ends o (found_of rows s).row
+finds_ends rows o bound (found i n) f = f.0
 finds_ends rows o bound (nowhere n) f = tt
 
-pub row_ends : (t : Table) (o : ℕ) {h : Hit} {i : ℕ} → h ≡ hit_of (search_of t o) → h.row ≡ Some i → (((get_or t.rows i no_row).start.0 ≤ o) × (o < (get_or t.rows i no_row).end.0)) × (i < t.count)
+pub row_ends : (t : Table) (o : ℕ) {h : Found} {i : ℕ} {r : Row} → h ≡ found_of t.rows (search_of t o) → h.row ≡ Some (i, r) → (r.start.0 ≤ o) × (o < r.end.0)
 row_ends t o e f =
-    subst (Ends t.rows o t.count) (sym (ap (λ (z : Hit). z.row) e) ∙ f) (finds_ends t.rows o t.count (search_of t o) (search_finds t o))
+    subst (Ends o) (sym (ap (λ (z : Found). z.row) e) ∙ f) (finds_ends t.rows o t.count (search_of t o) (search_finds t o))
 
 -- the ways through `get_mapping`
 module _ (t : Table) (o asked : ℕ) where
@@ -78,15 +74,15 @@ module _ (t : Table) (o asked : ℕ) where
   unfolding map_of
   map_late a b q = rw (le-leb _ _ a, le-leb _ _ b, q)
 
-  module _ {h : Hit} (e : h ≡ hit_of (search_of t o)) where
+  module _ {h : Found} (e : h ≡ found_of t.rows (search_of t o)) where
     map_hit : t.count ≤ most → o < t.size.0 → by_row t o asked h.row h.looked ≡ map_of t o asked
     unfolding map_of
     map_hit a b = rw (le-leb _ _ a, lt-leb _ _ b, e) (in_row_is t o asked (search_of t o))
 
     pub map_none : {m : Mapping} → t.count ≤ most → o < t.size.0 → h.row ≡ None → m ≡ ended h.looked → m ≡ map_of t o asked
-    map_none a b n q = q ∙ ap (λ (z : Option ℕ). by_row t o asked z h.looked) (sym n) ∙ map_hit a b
+    map_none a b n q = q ∙ ap (λ (z : Option (ℕ × Row)). by_row t o asked z h.looked) (sym n) ∙ map_hit a b
 
-    module _ {i : ℕ} (f : h.row ≡ Some i) where
-      pub map_row : {start end run : ℕ} {m : Mapping} → t.count ≤ most → o < t.size.0 → start ≡ (get_or t.rows i no_row).start.0 → end ≡ (get_or t.rows i no_row).end.0
-          → run ≡ min asked (min (t.size.0 - o) (end - o)) → m ≡ sourced (get_or t.rows i no_row).source i (o - start) run h.looked → m ≡ map_of t o asked
-      map_row a b s z r q = rw (s, r, z) at q ∙ ap (λ (z : Option ℕ). by_row t o asked z h.looked) (sym f) ∙ map_hit a b
+    module _ {i : ℕ} {w : Row} (f : h.row ≡ Some (i, w)) where
+      pub map_row : {start end run : ℕ} {m : Mapping} → t.count ≤ most → o < t.size.0 → start ≡ w.start.0 → end ≡ w.end.0
+          → run ≡ min asked (min (t.size.0 - o) (end - o)) → m ≡ sourced w.source i (o - start) run h.looked → m ≡ map_of t o asked
+      map_row a b s z r q = rw (s, r, z) at q ∙ ap (λ (z : Option (ℕ × Row)). by_row t o asked z h.looked) (sym f) ∙ map_hit a b

@@ -1,5 +1,6 @@
 // Mapping an offset of the disk.
-ghost use Rattle.std.specs.Prelude.{◌≡◌};
+ghost use Rattle.std.specs.Prelude.{◌≡◌, ◌≤◌, ◌<◌};
+ghost use Rattle.lines.specs.Record.{most};
 ghost use Rattle.maps.specs.Map.{ended, refused, writable, sourced, map_of};
 
 use crate::halving;
@@ -57,6 +58,22 @@ fn by_source(source: Source, row: usize, within: u64, run: u64, looked: usize) -
     }
 }
 
+// What lies at an offset before the disk's end, in a table with no more rows than it has places for: what mapping and the walk share, each of which has asked for both.
+pub(crate) fn find(t: &Table, offset: u64, max_length: u64) -> Mapping
+    requires { (t.now.count ≤ most) × (offset < t.now.size.0) }
+    ensures { result ≡ map_of t.now offset max_length }
+{
+    let size = t.size.offset();
+    let found = halving::search(t, offset);
+    let Some((i, row)) = found.row else {
+        return end_of_file(found.looked);
+    };
+    let within = offset - row.start.offset();
+    let left = (size - offset).min(row.end.offset() - offset);
+    let run = max_length.min(left);
+    by_source(row.source, i, within, run, found.looked)
+}
+
 // What lies at an offset of the disk, for at most the length asked.
 pub fn get_mapping(t: &Table, offset: u64, max_length: u64) -> Mapping
     ensures { result ≡ map_of t.now offset max_length }
@@ -64,17 +81,8 @@ pub fn get_mapping(t: &Table, offset: u64, max_length: u64) -> Mapping
     if MOST < t.count {
         return refuse(Fault::CountTooLarge, 0);
     }
-    let size = t.size.offset();
-    if size <= offset {
+    if t.size.offset() <= offset {
         return end_of_file(0);
     }
-    let hit = halving::search(t, offset);
-    let Some(i) = hit.row else {
-        return end_of_file(hit.looked);
-    };
-    let row = t.rows[i];
-    let within = offset - row.start.offset();
-    let left = (size - offset).min(row.end.offset() - offset);
-    let run = max_length.min(left);
-    by_source(row.source, i, within, run, hit.looked)
+    find(t, offset, max_length)
 }

@@ -62,9 +62,9 @@ fn ended(stop: Result<Stop, Fault>, count: usize, position: u64, looked: usize) 
     }
 }
 
-// The walk from a position on, with room for so many pieces. Before each step, in order: nothing left, or the position at or past the size, Done; no room, More. A step is as long as its run, so the loop goes by the position.
+// The walk from a position on, with room for so many pieces, over a table with no more rows than it has places for. Before each step, in order: nothing left, or the position at or past the size, Done; no room, More. A step is as long as its run, so the loop goes by the position.
 fn walk_from(t: &Table, list: &mut [Piece], room: usize, mut pos: u64, mut left: u64) -> Walked
-    requires { (room ≤ most) × (room ≤ len list.old) }
+    requires { (t.now.count ≤ most) × ((room ≤ most) × (room ≤ len list.old)) }
     ensures { (result ≡ walked (walk_from room t.now pos left)) × (list.new ≡ listed (walk_from room t.now pos left) list.old) }
 {
     let size = t.size.offset();
@@ -77,7 +77,7 @@ fn walk_from(t: &Table, list: &mut [Piece], room: usize, mut pos: u64, mut left:
         if room <= count {
             break Ok(Stop::More);
         }
-        let m = mapping::get_mapping(t, pos, left);
+        let m = mapping::find(t, pos, left);
         looked += m.looked;
         let found = match m.mapping {
             Ok(found) => found,

@@ -5,6 +5,7 @@ use mathlib.Core.List.{List}
 use mathlib.Core.Bool.{Bool, true, false, beq}
 use mathlib.Core.Path.{◌≡◌, refl, sym, ◌∙◌}
 use lib.ListN.{length, get_or, take, drop}
+use native.Mathlib.Omega.{arith}
 use borrow.Author.Rules.{rules}
 use Rattle.text.specs.Ranges.{pick}
 use Rattle.text.specs.Utf8.{char_at}
@@ -48,6 +49,13 @@ module _ {x : ℕ} (w : Bool) (t : List ℕ) (at : ℕ) (i : x ≡ run_of w t at
     pub low_off : beq b w ≡ false → at ≡ x
     low_off q = sym (rw (alike_eq b w, q) at (run_char w t at i refl (char_low t at h l) p refl))
 
+  -- a space
+  pub space_on : at < length t → get_or t at 0 ≡ 0x20 → w ≡ true → x ≡ run_of w t (at + 1)
+  unfolding blank
+  space_on h e v =
+      let p : true ≡ blank (get_or t at 0) = rw e refl in
+      low_on h (omega (arith, e)) p (rw v refl)
+
   module _ {r : Char} (e : r ≡ char_at (take (length t - at) (drop at t)) 0) where
     module _ {c n : ℕ} {b : Bool} (q : r ≡ Scalar c n) (p : b ≡ blank c) where
       pub run_on : beq b w ≡ true → x ≡ run_of w t (at + n)
@@ -62,6 +70,6 @@ module _ {x : ℕ} (w : Bool) (t : List ℕ) (at : ℕ) (i : x ≡ run_of w t at
     pub run_end : r ≡ End → at ≡ x
     run_end q = run_stop w t at i (e ∙ char_part t at) q
 
-pub ruleset runs = (run_out, low_on, low_off, run_on, run_off, run_bad, run_end, parts)
+pub ruleset runs = (run_out, space_on, low_on, low_off, run_on, run_off, run_bad, run_end, parts)
 
 pub ruleset offs = (run_off, rules)

@@ -56,6 +56,16 @@ module _ (p : ℕ → Bool → Type 0) (l : List ℕ) where
       let v = h (i - (length l - 16)) (omega arith) in
       rw (e, get_or-drop (length l - 16) l (i - (length l - 16)) 0, o) at v)
 
+  -- two blocks of 8, at the start and at the end, of at most 16 bytes
+  pub two_blocks : {a b : List ℕ} → length l ≤ 16 → a ≡ take 8 l → b ≡ drop (length l - 8) l → 8 ≤ length l → Passing p 8 a → Passing p 8 b → Passing p (length l) l
+  unfolding Passing
+  two_blocks z s e h c d i m =
+      by_test (ltb i 8) (λ f. let v = c i (ltb-true i 8 f) in rw (s, get_or-take 8 l i 0 (ltb-true i 8 f)) at v)
+      (λ f. let g = ltb-false i 8 f in
+      let o : length l - 8 + (i - (length l - 8)) ≡ i = omega arith in
+      let v = d (i - (length l - 8)) (omega arith) in
+      rw (e, get_or-drop (length l - 8) l (i - (length l - 8)) 0, o) at v)
+
 -- what the bytes that pass are, where a byte that passes is
 pub passed : (p : ℕ → Bool → Type 0) (Q : ℕ → Type 0) (n : ℕ) (l : List ℕ) → Passing p n l → ((x : ℕ) → p x true → Q x) → (i : ℕ) → i < n → Q (get_or l i 0)
 unfolding Passing

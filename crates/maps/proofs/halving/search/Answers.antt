@@ -1,7 +1,7 @@
 -- A look leads to the rows after the middle one, to those before it, or ends the search there, as the definition's does.
 use Rattle.std.proofs.Common.{ℕ, ◌≡◌, ◌+◌, ◌/◌, ◌<◌, ◌∙◌, ap, arith}
 use Rattle.maps.specs.Map.{middle}
-use Rattle.maps.specs.inside.Halving.{hit_of}
+use Rattle.maps.specs.inside.Halving.{found_of}
 use Rattle.maps.proofs.Halves.{on_start, on_after, on_before, on_hit, on_none}
 use Rattle.maps.proofs.halving.search.Goals as goal
 use Rattle.maps.proofs.halving.search.Goals.{then-offset, else-offset+then-offset-2}
@@ -38,9 +38,9 @@ pub returns-else-offset-2 : goal.returns-else-offset-2
 returns-else-offset-2 c =
     let s = c.loop-lo in
     let l : s.lo < s.hi = c.loop-lo-test.true in
-    ap hit_of (on_hit c.args.t.now.rows s.lo s.hi c.args.offset s.looked ((s.lo + s.hi) / 2) l (mid s.lo s.hi l) (omega arith) (omega arith) ∙ s.invariant.same)
+    ap (found_of c.args.t.now.rows) (on_hit c.args.t.now.rows s.lo s.hi c.args.offset s.looked ((s.lo + s.hi) / 2) l (mid s.lo s.hi l) (omega arith) (omega arith) ∙ s.invariant.same)
 
 pub returns : goal.returns
 returns c =
     let s = c.loop-lo in
-    ap hit_of (on_none c.args.t.now.rows s.lo s.hi c.args.offset s.looked c.loop-lo-test.false ∙ s.invariant.same)
+    ap (found_of c.args.t.now.rows) (on_none c.args.t.now.rows s.lo s.hi c.args.offset s.looked c.loop-lo-test.false ∙ s.invariant.same)
