@@ -7,7 +7,7 @@ ghost use Rattle.phrases.specs.Adding.{Adds};
 ghost use Rattle.disk_lines.specs.Report.{yes_no, flat_words, source_words, row_line, probe_line, head_lines, table_lines, report_of};
 
 use lines::record::{Text, VmdkAccessType};
-use phrases::line::{Answer, End, access, counted_rows, name};
+use phrases::line::{Answer, End, counted_rows, name};
 use phrases::opening::open;
 use probing::probe::probe;
 use tables::build::no_table;
@@ -35,7 +35,7 @@ fn flat_source(d: &[u8], a: VmdkAccessType, start: u64, t: Text, answer: &mut An
     ensures { Adds answer.old (line (flat_words d.now a start t)) answer.new }
 {
     answer.word(b"FLAT", End::Word);
-    answer.word(access(a), End::Word);
+    answer.access(a, End::Word);
     answer.number(start, End::Word);
     answer.word(name(d, t), End::Line);
 }
@@ -49,7 +49,7 @@ fn source(d: &[u8], s: Source, answer: &mut Answer<'_>)
         Source::NoAccess => answer.word(b"NOACCESS", End::Line),
         Source::Zero(a) => {
             answer.word(b"ZERO", End::Word);
-            answer.word(access(a), End::Line);
+            answer.access(a, End::Line);
         }
         Source::Flat(a, start, t) => flat_source(d, a, start.offset(), t, answer),
     }
@@ -106,7 +106,7 @@ fn report(d: &[u8], answer: &mut Answer<'_>)
     let mut table = no_table();
     match open(d, &mut table) {
         Ok(version) => table_lines(d, version, &table, answer),
-        Err(x) => answer.refused_line(x),
+        Err(x) => answer.refused_line(x.refusal),
     }
 }
 

@@ -7,7 +7,7 @@ ghost use Rattle.map_lines.specs.Map.{row_words, raw_words, zero_words, refused_
 
 use lines::record::Fault;
 use maps::mapping::get_mapping;
-use phrases::line::{Answer, End, mode, row_source, source_name};
+use phrases::line::{Answer, End, row_source, source_name};
 use phrases::opening::open;
 use tables::build::no_table;
 use tables::table::{Mapping, Row, ShallowMapping};
@@ -18,7 +18,7 @@ fn raw_row(row: u64, writable: bool, looked: u64, name: &[u8], answer: &mut Answ
     ensures { Adds answer.old (line (row_words row writable looked name.now)) answer.new }
 {
     answer.field(b"row", row, End::Word);
-    answer.word(mode(writable), End::Word);
+    answer.mode(writable, End::Word);
     answer.field(b"looked", looked, End::Word);
     answer.word(name, End::Line);
 }
@@ -94,7 +94,7 @@ fn map_line(d: &[u8], offset: u64, length: u64, answer: &mut Answer<'_>)
             let m = get_mapping(&table, offset, length);
             mapping_line(d, &table.rows, m, answer);
         }
-        Err(x) => answer.refused_line(x),
+        Err(x) => answer.refused_line(x.refusal),
     }
 }
 

@@ -3,8 +3,7 @@
 use Prim.Native.Nat.{ℕ}
 use mathlib.Core.List.{List}
 use mathlib.Core.Path.{◌≡◌, refl, sym}
-use borrow.Author.Rules.{rules}
-use Rattle.std.specs.Prelude.{Result, Ok, Err, ⊤}
+use Rattle.std.specs.Prelude.{Result, Ok, Err}
 use Rattle.lines.specs.declared.record.Record.{Record}
 use Rattle.lines.specs.declared.record.Refusal.{Refusal}
 use Rattle.descriptor.specs.Read.{read_of}
@@ -15,6 +14,7 @@ use Rattle.tables.specs.Into.{build_into}
 use Rattle.tables.specs.declared.table.Table.{Table}
 use Rattle.tables.proofs.Into.{into_empty, build_same, into_same, refused_none as build_none}
 use Rattle.phrases.specs.Line.{refused_line}
+use Rattle.phrases.specs.declared.opening.Unopened.{Unopened}
 use Rattle.phrases.specs.Opening.{Opened, first, version_or, opened, open_of, open_into, unless}
 use Rattle.lines.specs.Record.{Verdict, read_in, no_record}
 
@@ -23,46 +23,32 @@ module _ (d : List ℕ) (r : Record) where
   same_build : build_of (read_into d r) ≡ build_of (read_of d).descriptor
   same_build = build_same (read_into d r) (read_of d).descriptor (into_count d r) (into_read d r)
 
-  same_into : (t : Table) → build_into (read_into d r) t ≡ build_into (read_of d).descriptor t
+  pub same_into : (t : Table) → build_into (read_into d r) t ≡ build_into (read_of d).descriptor t
   same_into t = into_same (read_into d r) (read_of d).descriptor t (into_count d r) (into_read d r)
 
--- Rules of `open`
-module _ (d : List ℕ) {x : Refusal} (e : Err x ≡ (read_of d).verdict) where
-  pub read_refused : Err x ≡ opened (open_of d)
+-- Rules of `read_and_build`, by the record that was read into
+module _ (d : List ℕ) (z : Record) where
+  pub version_read : (read_into d z).desc.version ≡ (open_of d).version
   unfolding open_of
-  read_refused = rw (← e)
+  version_read = rw (into_desc d z)
 
-module _ (d : List ℕ) {x : Record} (z : Record) (e : (Ok tt) ≡ (read_of d).verdict) (p : x ≡ read_into d z) where
-  pub built_left : {u : Table} (t : Table) → u ≡ build_into x t → u ≡ build_into (read_of d).descriptor t
-  built_left t h = rw (← same_into d z t, ← p) h
-
-  told : {v : Verdict} → v ≡ (build_of x).verdict → (build_of (read_of d).descriptor).verdict ≡ v
-  told q = rw (← same_build d z, ← p) (sym q)
-
-  pub built_sound : (Ok tt) ≡ (build_of x).verdict → Ok x.desc.version ≡ opened (open_of d)
+  pub read_refused : {x : Refusal} → Err x ≡ (read_of d).verdict → Err x ≡ (open_of d).verdict
   unfolding open_of
-  built_sound q = let g = told q in rw (← e, g, p, into_desc d z)
+  read_refused e = rw (← e)
 
-  pub built_refused : {k : Refusal} → Err k ≡ (build_of x).verdict → Err k ≡ opened (open_of d)
-  unfolding open_of
-  built_refused q = let g = told q in rw (← e, g)
+  module _ (e : (Ok tt) ≡ (read_of d).verdict) where
+    pub built_told : (build_of (read_into d z)).verdict ≡ (open_of d).verdict
+    unfolding open_of
+    built_told = rw (← e) (rw (same_build d z))
 
-  -- an empty table becomes the one that is built
-  pub built_made : {u t : Table} → (Ok tt) ≡ (build_of x).verdict → u ≡ build_into x t → t ≡ no_table → u ≡ (open_of d).table
-  unfolding open_of
-  built_made q h n = let g = told q in rw (h, n, into_empty x (sym q), p, same_build d z)
+    -- an empty table becomes the one that is built
+    pub built_made : (Ok tt) ≡ (build_of (read_into d z)).verdict → build_into (read_into d z) no_table ≡ (open_of d).table
+    unfolding open_of
+    built_made q = rw (into_empty (read_into d z) (sym q), same_build d z)
 
-pub ruleset opens = (read_refused, built_sound, built_refused, rules)
+pub ruleset opens = (same_into, version_read, read_refused, built_told, built_made)
 
 -- ---- what opening leaves
-sound_by : (v : Verdict) (n : ℕ) {m : ℕ} → Ok m ≡ version_or v n → v ≡ (Ok tt)
-sound_by (Ok tt) n e = refl
-sound_by (Err k) n {m} e = absurd cc
-
-refused_by : (v : Verdict) (n : ℕ) {k : Refusal} → Err k ≡ version_or v n → v ≡ Err k
-refused_by (Ok tt) n e = absurd cc
-refused_by (Err k) n e = cc
-
 -- an empty record builds an empty table
 none_builds : (build_of no_record).table ≡ no_table
 unfolding build_of read_in rows_from
@@ -72,24 +58,27 @@ first_none : (d : List ℕ) (v : Verdict) {k : Refusal} → (read_of d).verdict 
 first_none d (Ok tt) {k} e f = build_none (read_of d).descriptor k f
 first_none d (Err x) e f = rw (read_none d x e) none_builds
 
+-- Rules of `open`
 module _ (d : List ℕ) where
-  pub left_sound : {m : ℕ} {u : Table} (t : Table) → Ok m ≡ opened (open_of d) → u ≡ build_into (read_of d).descriptor t → u ≡ open_into d t
+  pub left_sound : (t : Table) → (Ok tt) ≡ (open_of d).verdict → build_into (read_of d).descriptor t ≡ open_into d t
   unfolding open_into
-  left_sound t e h = let g = sound_by (open_of d).verdict (open_of d).version e in rw g h
+  left_sound t e = rw (← e)
 
-  pub left_refused : {k : Refusal} {u : Table} (t : Table) → Err k ≡ opened (open_of d) → u ≡ no_table → u ≡ open_into d t
+  pub left_refused : (t : Table) {x : Refusal} → Err x ≡ (open_of d).verdict → no_table ≡ open_into d t
   unfolding open_into
-  left_refused t e h = let g = refused_by (open_of d).verdict (open_of d).version e in rw g h
+  left_refused t e = rw (← e)
 
-  pub made_refused : {k : Refusal} {u : Table} → Err k ≡ opened (open_of d) → u ≡ no_table → u ≡ (open_of d).table
+  pub made_refused : {x : Refusal} → Err x ≡ (open_of d).verdict → no_table ≡ (open_of d).table
   unfolding open_of
-  made_refused {k} e h = let g = refused_by (open_of d).verdict (open_of d).version e in rw h (sym (first_none d (read_of d).verdict refl g))
+  made_refused e = sym (first_none d (read_of d).verdict refl (sym e))
+
+pub ruleset leaves = (left_sound, left_refused, made_refused)
 
 -- ---- what opening tells of the definition
 -- a text where there is a version, and else the line of the refusal
-abbrev pub or_refused : Result ℕ Refusal → List ℕ → List ℕ
+abbrev pub or_refused : Result ℕ Unopened → List ℕ → List ℕ
 or_refused (Ok version) text = text
-or_refused (Err r) text = refused_line r
+or_refused (Err e) text = refused_line e.refusal
 
 pub unless_is : (o : Opened) (text : List ℕ) → unless o.verdict text ≡ or_refused (opened o) text
 unless_is o text = by_verdict o.verdict o.version
@@ -99,10 +88,10 @@ unless_is o text = by_verdict o.verdict o.version
     by_verdict (Err k) n = refl
 
 -- the version that is answered is the one that was read
-abbrev pub by_version : Result ℕ Refusal → ℕ → Type 0
+abbrev pub by_version : Result ℕ Unopened → ℕ → Type 0
 by_version (Ok m) n = m ≡ n
-by_version (Err r) n = ⊤
+by_version (Err e) n = e.version ≡ n
 
 pub version_is : (v : Verdict) (n : ℕ) → by_version (version_or v n) n
 version_is (Ok tt) n = refl
-version_is (Err r) n = tt
+version_is (Err r) n = refl

@@ -1,11 +1,11 @@
 -- Reading a descriptor and building its table: refused where either is.
 use Rattle.std.specs.Prelude.{ℕ, List, Result, Ok, Err}
 use Rattle.descriptor.specs.Read.{Read, read_of}
-use Rattle.lines.specs.declared.record.Refusal.{Refusal}
 use Rattle.tables.specs.Build.{Built, no_table, build_of}
 use Rattle.tables.specs.Into.{build_into}
 use Rattle.tables.specs.declared.table.Table.{Table}
 use Rattle.phrases.specs.Line.{refused_line}
+use Rattle.phrases.specs.declared.opening.Unopened.{Unopened}
 use Rattle.lines.specs.Record.{Verdict}
 
 -- a descriptor that was read and built: its version and its table, or why it is refused
@@ -27,12 +27,12 @@ open_by r b = record { verdict = first r.verdict b.verdict; version = r.descript
 unfoldable pub open_of : List ℕ → Opened
 open_of d = open_by (read_of d) (build_of (read_of d).descriptor)
 
--- what opening answers: the version, or the refusal
-abbrev pub version_or : Verdict → ℕ → Result ℕ Refusal
+-- what opening answers: the version, beside the refusal where there is one
+abbrev pub version_or : Verdict → ℕ → Result ℕ Unopened
 version_or (Ok tt) version = Ok version
-version_or (Err r) version = Err r
+version_or (Err r) version = Err (record { refusal = r; version = version })
 
-abbrev pub opened : Opened → Result ℕ Refusal
+abbrev pub opened : Opened → Result ℕ Unopened
 opened o = version_or o.verdict o.version
 
 -- the lent table after opening: empty where either is refused, and otherwise what the build leaves in it

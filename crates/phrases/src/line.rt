@@ -63,6 +63,20 @@ impl<'a> Answer<'a> {
         self.number(n, end);
     }
 
+    // Puts how an extent may be accessed, and its end.
+    pub fn access(&mut self, a: VmdkAccessType, end: End)
+        ensures { Adds self.old (closed end (access_word a)) self.new }
+    {
+        self.word(access(a), end);
+    }
+
+    // Puts how a row's bytes may be accessed, by whether they may be written, and its end.
+    pub fn mode(&mut self, writable: bool, end: End)
+        ensures { Adds self.old (closed end (mode_word writable)) self.new }
+    {
+        self.word(mode(writable), end);
+    }
+
     // Puts the line of a refusal. The second number is cast: there is no `From` for a `usize`.
     #[tactic(auto, using(crate::proofs::Lines::lines), unfolding(crate::specs::Line::refused_line))]
     pub fn refused_line(&mut self, x: Refusal)

@@ -6,34 +6,45 @@ ghost use Rattle.tables.specs.Into.{build_into};
 ghost use Rattle.phrases.specs.Opening.{opened, open_of, open_into};
 
 use descriptor::{empty, read};
-use lines::record::Refusal;
+use lines::record::{Record, Refusal, Verdict};
 use tables::build;
 use tables::table::Table;
 
-// Reads a descriptor and builds its table, in one that is lent: the descriptor's version, or the first refusal of the two.
-fn read_and_build(d: &[u8], into: &mut Table) -> Result<u32, Refusal>
-    ensures version { result ≡ opened (open_of d.now) }
+// Why a descriptor is not opened: the refusal, and the version that was read, which is 0 where reading is refused.
+#[derive(Clone, Copy, Debug, PartialEq, Eq)]
+pub struct Unopened {
+    pub refusal: Refusal,
+    pub version: u32,
+}
+
+// Reads a descriptor and builds its table, in a record and a table that are lent: the first refusal of the two. The record has the values that were read.
+#[tactic(auto, using(crate::proofs::Openings::opens))]
+fn read_and_build(d: &[u8], record: &mut Record, into: &mut Table) -> Verdict
+    ensures verdict { result ≡ (open_of d.now).verdict }
+    ensures version { «record».new.desc.version ≡ (open_of d.now).version }
     ensures built { OnOk result (into.new ≡ build_into (read_of d.now).descriptor into.old) }
     ensures made { OnOk result (into.old ≡ no_table → into.new ≡ (open_of d.now).table) }
 {
-    let mut record = empty::no_record();
-    read::parse_descriptor_file(d, &mut record)?;
-    build::build(&record, into)?;
-    Ok(record.desc.version)
+    read::parse_descriptor_file(d, record)?;
+    build::build(record, into)
 }
 
-// Opens a descriptor, in a table that is lent: its version, or the first refusal of reading and building. A refusal leaves an empty table, and an
-// empty table becomes the one that is built.
-pub fn open(d: &[u8], into: &mut Table) -> Result<u32, Refusal>
+// Opens a descriptor, in a table that is lent: its version, beside the first refusal of reading and building where there is one. A refusal leaves an
+// empty table, and an empty table becomes the one that is built.
+#[tactic(auto, using(crate::proofs::Openings::leaves))]
+pub fn open(d: &[u8], into: &mut Table) -> Result<u32, Unopened>
     ensures version { result ≡ opened (open_of d.now) }
     ensures left { into.new ≡ open_into d.now into.old }
     ensures made { into.old ≡ no_table → into.new ≡ (open_of d.now).table }
 {
-    match read_and_build(d, into) {
-        Ok(version) => Ok(version),
-        Err(r) => {
+    let mut record = empty::no_record();
+    let verdict = read_and_build(d, &mut record, into);
+    let version = record.desc.version;
+    match verdict {
+        Ok(()) => Ok(version),
+        Err(refusal) => {
             *into = build::no_table();
-            Err(r)
+            Err(Unopened { refusal, version })
         }
     }
 }

@@ -8,7 +8,7 @@ ghost use Rattle.walk_lines.specs.Walk.{raw_words, piece_words, piece_from, piec
 
 use lines::record::Fault;
 use maps::stepping::{no_pieces, walk_in};
-use phrases::line::{Answer, End, mode, row_source, source_name};
+use phrases::line::{Answer, End, row_source, source_name};
 use phrases::opening::open;
 use tables::build::no_table;
 use tables::table::{Piece, PieceSource, Row, Source, Stop, Table, Walked};
@@ -20,7 +20,7 @@ fn raw_piece(offset: u64, row: u64, writable: bool, name: &[u8], answer: &mut An
 {
     answer.field(b"raw", offset, End::Word);
     answer.field(b"row", row, End::Word);
-    answer.word(mode(writable), End::Word);
+    answer.mode(writable, End::Word);
     answer.word(name, End::Line);
 }
 
@@ -102,7 +102,7 @@ fn walk_text(d: &[u8], offset: u64, length: u64, places: usize, answer: &mut Ans
     let mut table = no_table();
     match open(d, &mut table) {
         Ok(_) => table_walk(d, &table, offset, length, places, answer),
-        Err(x) => answer.refused_line(x),
+        Err(x) => answer.refused_line(x.refusal),
     }
 }
 
