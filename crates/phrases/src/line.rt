@@ -63,7 +63,7 @@ impl<'a> Answer<'a> {
         self.number(n, end);
     }
 
-    // Puts how an extent may be accessed, and its end.
+    // Puts how an extent may be accessed, and its end. `access` and `mode` stay two, here and as words: an access, and a yes or no.
     pub fn access(&mut self, a: VmdkAccessType, end: End)
         ensures { Adds self.old (closed end (access_word a)) self.new }
     {

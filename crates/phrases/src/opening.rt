@@ -10,7 +10,7 @@ use lines::record::{Record, Refusal, Verdict};
 use tables::build;
 use tables::table::Table;
 
-// Why a descriptor is not opened: the refusal, and the version that was read, which is 0 where reading is refused.
+// Why a descriptor is not opened, and the version that was read: that of an empty record where reading is refused.
 #[derive(Clone, Copy, Debug, PartialEq, Eq)]
 pub struct Unopened {
     pub refusal: Refusal,
