@@ -35,7 +35,9 @@ fn arguments(rt: &impl Env) -> usize {
 }
 
 // Argument i, by way of a buffer: empty where it is missing, or none where the buffer is too short for it.
-fn argument<'a>(rt: &impl Env, i: usize, buf: &'a mut [u8]) -> Option<&'a [u8]> {
+fn argument<'a>(rt: &impl Env, i: usize, buf: &'a mut [u8]) -> Option<&'a [u8]>
+    ensures { IfSome result (λ part. length part.now ≤ length buf.old) }
+{
     match rt.arg(i, buf) {
         Ok(n) => Some(&buf[..n]),
         Err(FillError::NotPresent) => Some(&[]),
