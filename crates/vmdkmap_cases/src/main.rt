@@ -14,7 +14,7 @@ use std::io::Read;
 use std::rt::Files;
 use std::{fs, io};
 
-// The words of a line, or of what is left of it. (`Cases` goes likewise, but for the cut: see there.)
+// The words of a line, or of what is left of it: nothing past the last one, so that blanks at the end are not passed over again. (`Cases` goes likewise, but for the cut: see there.)
 #[derive(Clone, Copy)]
 struct Words<'a>(&'a [u8]);
 
@@ -24,6 +24,7 @@ impl<'a> Iterator for Words<'a> {
     #[tactic(auto, using(text::proofs::Bounds::cuts))]
     fn next(&mut self) -> Option<&'a [u8]> {
         let line = self.0;
+        self.0 = &[];
         let (a, e) = text::words::next_word(line, 0)?;
         self.0 = &line[e..];
         Some(&line[a..e])
@@ -117,11 +118,12 @@ impl<'a> Iterator for Cases<'a> {
 
 // Runs case after case; how many there were.
 fn run_all(rt: &(impl Files + Print), list: &[u8]) -> io::Result<usize> {
-    let cases = Cases(list);
-    for line in cases {
+    let mut count: usize = 0;
+    for line in Cases(list) {
         run_case(rt, line)?;
+        count += 1;
     }
-    Ok(cases.count())
+    Ok(count)
 }
 
 // Reads the list, runs its cases and counts them.
