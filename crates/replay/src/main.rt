@@ -27,20 +27,15 @@ fn fill(from: &mut impl Read, part: Option<&mut [u8]>) -> io::Result<bool> {
     Ok(read_full(from, part)? == n)
 }
 
-// Reads the next case and answers how many bytes its descriptor has, or none where there is no whole case. (`as`: a u32 has no `From` to usize.)
+// Reads the next case and answers how many bytes its descriptor has, or none where there is no whole case. A part is read whether or not the one before was whole: a terminal's input can end and go on, and what is answered there stays. (`as`: a u32 has no `From` to usize.)
 fn read_case(from: &mut impl Read, c: &mut [u8]) -> io::Result<Option<usize>> {
-    let mut length = [0; 4];
-    if !fill(from, Some(&mut length))? {
-        return Ok(None);
-    }
-    let n = u32::from_le_bytes(length) as usize;
-    if !fill(from, c.get_mut(..=n))? {
-        return Ok(None);
-    }
+    fill(from, c.get_mut(..4))?;
+    let n = c.first_chunk().map_or(0, |b| u32::from_le_bytes(*b)) as usize;
+    let told = fill(from, c.get_mut(..=n))?;
     let asked = c.get(n).map_or(0, |q| usize::from(*q) * case::QUERY);
     let after = n + 1;
-    let told = fill(from, c.get_mut(after..after + asked))?;
-    Ok(told.then_some(n))
+    let whole = told & fill(from, c.get_mut(after..after + asked))?;
+    Ok(whole.then_some(n))
 }
 
 // Case after case, up to a number that no file reaches.
