@@ -97,10 +97,10 @@ impl<'a> Iterator for Vectors<'a> {
 
 // Runs vector after vector.
 fn run_all(rt: &impl Print, d: &[u8]) -> io::Result<()> {
-    let vectors = Vectors(d);
-    let count = vectors.count();
+    let mut count: usize = 0;
     let mut failed: usize = 0;
-    for vector in vectors {
+    for vector in Vectors(d) {
+        count += 1;
         failed += usize::from(fails(rt, vector)?);
     }
     println!(rt; "run {count}")?;
