@@ -33,12 +33,18 @@ impl<'a> Iterator for Words<'a> {
 
 // What words ask, as the program's arguments: a fifth is one too many.
 fn asked(mut words: Words) -> Command {
-    let n = words.take(5).count();
-    let mode = words.next().unwrap_or(&[]);
-    let a = words.next().unwrap_or(&[]);
-    let b = words.next().unwrap_or(&[]);
-    let c = words.next().unwrap_or(&[]);
-    read_command(n, mode, a, b, c)
+    let mode = words.next();
+    let a = words.next();
+    let b = words.next();
+    let c = words.next();
+    let n = [mode, a, b, c, words.next()].iter().flatten().count();
+    read_command(
+        n,
+        mode.unwrap_or(&[]),
+        a.unwrap_or(&[]),
+        b.unwrap_or(&[]),
+        c.unwrap_or(&[]),
+    )
 }
 
 // Writes the answer to an input, by way of a buffer. (A function of its own: `vmdkmap` tells on standard error, and in other words, that an answer is too long.)
