@@ -1,4 +1,4 @@
-// Passing over the bytes at the start of a text that all pass a test, in blocks of 16.
+// Passing over the bytes at the start of a text that all pass a test, in blocks of 16, and in blocks of 8 where a text is shorter.
 ghost use Rattle.std.specs.Prelude.{◌≡◌, ◌≤◌, true, length};
 ghost use Rattle.text.specs.inside.Blocks.{Passing};
 
@@ -28,7 +28,7 @@ fn passing<F: Fn(u8) -> bool>(t: &[u8], passes: &F) -> usize
     t.len()
 }
 
-// Up to where the bytes of a text that is shorter than a block pass: all of it, by two blocks of 8 that may overlap, or byte by byte.
+// Up to where the bytes of a text of at most 16 pass: all of it, by two blocks of 8 that may overlap, or byte by byte.
 fn past_short<F: Fn(u8) -> bool>(t: &[u8], passes: &F) -> usize
     requires callable { F.IsAlwaysCallable passes.now }
     requires short { length t.now ≤ 16 }
@@ -48,23 +48,32 @@ fn past_short<F: Fn(u8) -> bool>(t: &[u8], passes: &F) -> usize
     passing(t, passes)
 }
 
-// Up to where the bytes are known to pass: past blocks that do, the last of which may overlap the one before it; of a shorter text, as far as they pass.
+// Up to where the bytes are known to pass: past blocks that do, the last of which may overlap the one before it.
 pub(crate) fn past_blocks<F: Fn(u8) -> bool>(t: &[u8], passes: F) -> usize
     requires { F.IsAlwaysCallable passes }
     ensures inside { result ≤ length t.now }
     ensures passed { Passing (F.post passes) result t.now }
 {
-    let Some(last) = t.last_chunk::<16>() else {
-        return past_short(t, &passes);
-    };
     let (blocks, _) = t.as_chunks::<16>();
     for (i, block) in blocks.iter().enumerate() {
         if !all_pass(block, &passes) {
             return i * 16;
         }
     }
-    if all_pass(last, &passes) {
-        return t.len();
+    match t.last_chunk::<16>() {
+        Some(block) if all_pass(block, &passes) => t.len(),
+        _ => blocks.len() * 16,
     }
-    blocks.len() * 16
+}
+
+// The same, and of a text that is shorter than a block as far as its bytes pass.
+pub(crate) fn past_run<F: Fn(u8) -> bool>(t: &[u8], passes: F) -> usize
+    requires { F.IsAlwaysCallable passes }
+    ensures inside { result ≤ length t.now }
+    ensures passed { Passing (F.post passes) result t.now }
+{
+    if t.len() < 16 {
+        return past_short(t, &passes);
+    }
+    past_blocks(t, passes)
 }

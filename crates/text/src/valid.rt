@@ -4,7 +4,7 @@ ghost use Rattle.text.specs.inside.Blocks.{width_in};
 ghost use Rattle.text.specs.Utf8.{char_at};
 ghost use Rattle.text.specs.Text.{sound, text_at};
 
-use crate::blocks::past_blocks;
+use crate::blocks::past_run;
 use crate::utf8::{Char, next_char, trails};
 
 // Whether a character of two bytes stands at a place. (The place is within the text, so that the subtraction fits, here and below. By a pattern, `[0xC2..=0xDF, 0x80..=0xBF, ..]`, the proof did not close.)
@@ -62,7 +62,7 @@ pub(crate) fn valid(t: &[u8]) -> bool
     let mut at = 0;
     while at < t.len() {
         if t[at] < 0x80 {
-            at += 1 + past_blocks(&t[at + 1..], |x| x < 0x80);
+            at += 1 + past_run(&t[at + 1..], |x| x < 0x80);
             continue;
         }
         let Some(width) = width_at(t, at) else {

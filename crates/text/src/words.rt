@@ -80,19 +80,26 @@ pub fn inner(t: &[u8]) -> &[u8]
     }
 }
 
+// Past the spaces that start at a place, where blanks are wanted: most blanks are spaces, and `is_blank` tests the controls before them. (By the place, as in `run_end`, whose flag it has.)
+#[tactic(auto, using(crate::proofs::Runs::runs))]
+fn past_spaces(t: &[u8], from: usize, wanted: bool) -> usize
+    ensures { run_of wanted t.now from ≡ run_of wanted t.now result }
+{
+    let mut at = from;
+    while wanted && at < t.len() && t[at] == b' ' {
+        at += 1;
+    }
+    at
+}
+
 // Where the blanks that start at a place end, or, if they are not wanted, the characters that are not blank. A step is as wide as its character, so the loop goes by the place. (The flag is that of `run_of`, which the contract names.)
 #[tactic(auto, using(crate::proofs::Runs::runs))]
 pub fn run_end(t: &[u8], from: usize, wanted: bool) -> usize
     ensures { result ≡ run_of wanted t.now from }
 {
-    let mut at = from;
+    let mut at = past_spaces(t, from, wanted);
     while at < t.len() {
         let b = t[at];
-        // Most blanks are spaces, so they are told first: `is_blank` tests the controls before them, and a run of spaces would take twice the time.
-        if wanted && b == b' ' {
-            at += 1;
-            continue;
-        }
         if b < 0x80 {
             if is_blank(u32::from(b)) == wanted {
                 at += 1;
