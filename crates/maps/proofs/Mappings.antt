@@ -5,6 +5,7 @@ use native.Mathlib.Omega.{arith}
 use mathlib.Core.Path.{◌≡◌, refl, sym, ◌∙◌, ap, subst}
 use mathlib.Core.Bool.{Bool}
 use mathlib.Core.List.{List}
+use lib.ListN.{get_or}
 use borrow.Author.Tests.{le-leb, lt-leb}
 use Rattle.std.specs.Prelude.{Option, Some, None, Ok}
 use Rattle.lines.specs.Record.{most}
@@ -18,6 +19,7 @@ use Rattle.tables.specs.declared.table.Source.{Source}
 use Rattle.tables.specs.declared.table.Source.TheVariants.{NoAccess, Zero as Zeros, Flat}
 use Rattle.tables.specs.declared.table.ShallowMapping.TheVariants.{Zero, Raw}
 use Rattle.tables.specs.declared.table.Mapping.{Mapping}
+use Rattle.tables.specs.Build.{no_row}
 use Rattle.maps.specs.declared.halving.Found.{Found}
 use Rattle.lines.specs.declared.record.Fault.TheVariants.{Inaccessible, OffsetTooLarge, CountTooLarge}
 use Rattle.maps.specs.Map.{Search, found, nowhere, writable, sourced, ended, refused, in_row, search_of, map_of}
@@ -51,18 +53,18 @@ unfolding in_row
 in_row_is t o asked (found i n) = refl
 in_row_is t o asked (nowhere n) = refl
 
--- of a row that a search ended at: it holds the offset
-abbrev Ends : ℕ → Option (ℕ × Row) → Type 0
-Ends o None = Unit {0}
-Ends o (Some (i, r)) = (r.start.0 ≤ o) × (o < r.end.0)
+-- of a row that a search ended at: it holds the offset, and is the one at its number, which is one of those that count
+abbrev Ends : List Row → ℕ → ℕ → Option (ℕ × Row) → Type 0
+Ends rows o bound None = Unit {0}
+Ends rows o bound (Some (i, r)) = (((r.start.0 ≤ o) × (o < r.end.0)) × (i < bound)) × (r ≡ get_or rows i no_row)
 
-finds_ends : (rows : List Row) (o bound : ℕ) (s : Search) → Finds rows o bound s → Ends o (found_of rows s).row
-finds_ends rows o bound (found i n) f = f.0
+finds_ends : (rows : List Row) (o bound : ℕ) (s : Search) → Finds rows o bound s → Ends rows o bound (found_of rows s).row
+finds_ends rows o bound (found i n) f = (f, refl)
 finds_ends rows o bound (nowhere n) f = tt
 
-pub row_ends : (t : Table) (o : ℕ) {h : Found} {i : ℕ} {r : Row} → h ≡ found_of t.rows (search_of t o) → h.row ≡ Some (i, r) → (r.start.0 ≤ o) × (o < r.end.0)
+pub row_ends : (t : Table) (o : ℕ) {h : Found} {i : ℕ} {r : Row} → h ≡ found_of t.rows (search_of t o) → h.row ≡ Some (i, r) → (((r.start.0 ≤ o) × (o < r.end.0)) × (i < t.count)) × (r ≡ get_or t.rows i no_row)
 row_ends t o e f =
-    subst (Ends o) (sym (ap (λ (z : Found). z.row) e) ∙ f) (finds_ends t.rows o t.count (search_of t o) (search_finds t o))
+    subst (Ends t.rows o t.count) (sym (ap (λ (z : Found). z.row) e) ∙ f) (finds_ends t.rows o t.count (search_of t o) (search_finds t o))
 
 -- the ways through `get_mapping`
 module _ (t : Table) (o asked : ℕ) where
